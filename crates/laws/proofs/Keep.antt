@@ -1,0 +1,152 @@
+-- Filters and tests of lists: what `keep`, `every`, `some`, `elem` and `bind` say of the elements.
+--     mem-keep, mem-of-keep           into a filtered list, and out of it
+--     every→, →every, some→, →some, elem→, →elem     a test of a list, as a statement about its elements
+--     mem-bind, mem-of-bind           into the lists of `bind`, and out of them
+--     keep-ext, some-ext              equal tests
+--     keep-keep, some-keep, keep-map, keep-append, keep-none, keep-all, keep-swap, length-keep-le
+-- Assumes nothing.
+use mathlib.Core.Path.{_≡_, refl, sym, ap, ap₂, _∙_, subst}
+use mathlib.Core.Logic.{_⊎_, inl, inr, _≢_}
+use mathlib.Core.Bool.{Bool, true, false, not, _&&_, _||_}
+use mathlib.Core.List.{List, [], _∷_, _++_, map, Memᴰ·append-left, Memᴰ·append-right, List·Memᴰ·append-cases, Memᴰ·cast}
+use mathlib.Core.List.{List·Memᴰ as Mem, List·Memᴰ·head as here, List·Memᴰ·tail as there, List·Memᴰ·not-nil as mem-nil}
+use Prim.Native.Nat.{ℕ, suc, _≤_, zero-le, suc-le-suc}
+use native.Mathlib.Nat.{le-suc, le-trans}
+use lib.Dec.{T, eqb, eqb→eq}
+use lib.ListN.{length}
+use Rattle.laws.specs.Lists.{keepIf, keep, every, some, elem, bind}
+use Rattle.laws.proofs.Tests.{T-and, and-T, T-or, or-l, or-r, T-true, eq→eqb}
+
+module _ {A : Type 0} where
+  pub mem-keep : (p : A → Bool) (l : List A) {x : A} → Mem x l → T (p x) → Mem x (keep p l)
+  mem-keep p (y ∷ ys) {x} (here e) t = go (p y) (subst (λ (z : A). T (p z)) e t)
+    where
+      go : (b : Bool) → T b → Mem x (keepIf b y (keep p ys))
+      go true h = here e
+      go false h = absurd h
+  mem-keep p (y ∷ ys) {x} (there m) t = go (p y) (mem-keep p ys m t)
+    where
+      go : (b : Bool) → Mem x (keep p ys) → Mem x (keepIf b y (keep p ys))
+      go true h = there h
+      go false h = h
+
+  pub mem-of-keep : (p : A → Bool) (l : List A) {x : A} → Mem x (keep p l) → Mem x l × T (p x)
+  mem-of-keep p [] m = absurd (mem-nil m)
+  mem-of-keep p (y ∷ ys) {x} m = go (p y) refl m (λ m′. mem-of-keep p ys m′)
+    where
+      cs : p y ≡ true → Mem x (y ∷ keep p ys) → (Mem x (keep p ys) → Mem x ys × T (p x)) → Mem x (y ∷ ys) × T (p x)
+      cs e (here q) r = (here q, subst (λ (z : A). T (p z)) (sym q) (subst T (sym e) tt))
+      cs e (there k) r = let h = r k in (there (h .0), h .1)
+
+      go : (b : Bool) → p y ≡ b → Mem x (keepIf b y (keep p ys)) → (Mem x (keep p ys) → Mem x ys × T (p x)) → Mem x (y ∷ ys) × T (p x)
+      go true e k r = cs e k r
+      go false e k r = let h = r k in (there (h .0), h .1)
+
+  pub every→ : (p : A → Bool) (l : List A) → T (every p l) → (x : A) → Mem x l → T (p x)
+  every→ p (y ∷ ys) h x (here e) = subst (λ (z : A). T (p z)) (sym e) (T-and (p y) (every p ys) h .0)
+  every→ p (y ∷ ys) h x (there m) = every→ p ys (T-and (p y) (every p ys) h .1) x m
+
+  pub →every : (p : A → Bool) (l : List A) → ((x : A) → Mem x l → T (p x)) → T (every p l)
+  →every p [] f = tt
+  →every p (y ∷ ys) f = and-T (p y) (every p ys) (f y (here refl)) (→every p ys (λ x m. f x (there m)))
+
+  pub some→ : (p : A → Bool) (l : List A) → T (some p l) → (x : A) × Mem x l × T (p x)
+  some→ p [] h = absurd h
+  some→ p (y ∷ ys) h = go (T-or (p y) (some p ys) h) (λ k. some→ p ys k)
+    where
+      go : T (p y) ⊎ T (some p ys) → (T (some p ys) → (x : A) × Mem x ys × T (p x)) → (x : A) × Mem x (y ∷ ys) × T (p x)
+      go (inl t) r = (y, here refl, t)
+      go (inr k) r = let q = r k in (q .0, there (q .1), q .2)
+
+  pub →some : (p : A → Bool) (l : List A) {x : A} → Mem x l → T (p x) → T (some p l)
+  →some p (y ∷ ys) (here e) t = or-l (p y) (some p ys) (subst (λ (z : A). T (p z)) e t)
+  →some p (y ∷ ys) (there m) t = or-r (p y) (some p ys) (→some p ys m t)
+
+  pub keep-ext : (p q : A → Bool) (l : List A) → ((x : A) → Mem x l → p x ≡ q x) → keep p l ≡ keep q l
+  keep-ext p q [] f = refl
+  keep-ext p q (x ∷ xs) f = ap₂ (λ (b : Bool) (r : List A). keepIf b x r) (f x (here refl)) (keep-ext p q xs (λ y m. f y (there m)))
+
+  pub some-ext : (p q : A → Bool) (l : List A) → ((x : A) → Mem x l → p x ≡ q x) → some p l ≡ some q l
+  some-ext p q [] f = refl
+  some-ext p q (x ∷ xs) f = ap₂ (λ (b r : Bool). b || r) (f x (here refl)) (some-ext p q xs (λ y m. f y (there m)))
+
+  pub keep-keep : (p q : A → Bool) (l : List A) → keep p (keep q l) ≡ keep (λ (x : A). q x && p x) l
+  keep-keep p q [] = refl
+  keep-keep p q (x ∷ xs) = go (q x) (keep-keep p q xs)
+    where
+      go : (b : Bool) → keep p (keep q xs) ≡ keep (λ (x : A). q x && p x) xs → keep p (keepIf b x (keep q xs)) ≡ keepIf (b && p x) x (keep (λ (x : A). q x && p x) xs)
+      go true e = ap (λ (r : List A). keepIf (p x) x r) e
+      go false e = e
+
+  pub some-keep : (p q : A → Bool) (l : List A) → some p (keep q l) ≡ some (λ (x : A). q x && p x) l
+  some-keep p q [] = refl
+  some-keep p q (x ∷ xs) = go (q x) (some-keep p q xs)
+    where
+      go : (b : Bool) → some p (keep q xs) ≡ some (λ (x : A). q x && p x) xs → some p (keepIf b x (keep q xs)) ≡ (b && p x || some (λ (x : A). q x && p x) xs)
+      go true e = ap (λ (r : Bool). p x || r) e
+      go false e = e
+
+  pub keep-append : (p : A → Bool) (s t : List A) → keep p (s ++ t) ≡ keep p s ++ keep p t
+  keep-append p [] t = refl
+  keep-append p (x ∷ xs) t = go (p x) (keep-append p xs t)
+    where
+      go : (b : Bool) → keep p (xs ++ t) ≡ keep p xs ++ keep p t → keepIf b x (keep p (xs ++ t)) ≡ keepIf b x (keep p xs) ++ keep p t
+      go true e = ap (λ (r : List A). x ∷ r) e
+      go false e = e
+
+  pub keep-none : (p : A → Bool) (l : List A) → ((x : A) → T (p x) → ⊥) → keep p l ≡ []
+  keep-none p [] f = refl
+  keep-none p (x ∷ xs) f = go (p x) refl (keep-none p xs f)
+    where
+      go : (b : Bool) → p x ≡ b → keep p xs ≡ [] → keepIf b x (keep p xs) ≡ []
+      go true e r = absurd (f x (subst T (sym e) tt))
+      go false e r = r
+
+  pub keep-all : (p : A → Bool) (l : List A) → ((x : A) → Mem x l → T (p x)) → keep p l ≡ l
+  keep-all p [] f = refl
+  keep-all p (x ∷ xs) f =
+      ap₂ (λ (b : Bool) (r : List A). keepIf b x r) (T-true (p x) (f x (here refl))) (keep-all p xs (λ y m. f y (there m)))
+
+  pub keep-swap : (p q : A → Bool) (l : List A) → keep p (keep q l) ≡ keep q (keep p l)
+  keep-swap p q l = keep-keep p q l ∙ keep-ext (λ x. q x && p x) (λ x. p x && q x) l (λ x m. flip (q x) (p x)) ∙ sym (keep-keep q p l)
+    where
+      flip : (a b : Bool) → (a && b) ≡ (b && a)
+      flip true true = refl
+      flip true false = refl
+      flip false true = refl
+      flip false false = refl
+
+  pub length-keep-le : (p : A → Bool) (l : List A) → length (keep p l) ≤ length l
+  length-keep-le p [] = zero-le
+  length-keep-le p (x ∷ xs) = go (p x) (length-keep-le p xs)
+    where
+      go : (b : Bool) → length (keep p xs) ≤ length xs → length (keepIf b x (keep p xs)) ≤ suc (length xs)
+      go true h = suc-le-suc h
+      go false h = le-trans h (le-suc (length xs))
+
+module _ {A B : Type 0} where
+  pub keep-map : (g : A → B) (p : B → Bool) (l : List A) → keep p (map g l) ≡ map g (keep (λ (x : A). p (g x)) l)
+  keep-map g p [] = refl
+  keep-map g p (x ∷ xs) = go (p (g x)) (keep-map g p xs)
+    where
+      go : (b : Bool) → keep p (map g xs) ≡ map g (keep (λ (x : A). p (g x)) xs) → keepIf b (g x) (keep p (map g xs)) ≡ map g (keepIf b x (keep (λ (x : A). p (g x)) xs))
+      go true e = ap (λ (r : List B). g x ∷ r) e
+      go false e = e
+
+  pub mem-bind : (f : A → List B) (l : List A) {x : A} {y : B} → Mem x l → Mem y (f x) → Mem y (bind f l)
+  mem-bind f (z ∷ zs) {x} {y} (here e) k = Memᴰ·append-left (bind f zs) (subst (λ (a : A). Mem y (f a)) e k)
+  mem-bind f (z ∷ zs) (there m) k = Memᴰ·append-right (f z) (mem-bind f zs m k)
+
+  pub mem-of-bind : (f : A → List B) (l : List A) {y : B} → Mem y (bind f l) → (x : A) × Mem x l × Mem y (f x)
+  mem-of-bind f [] m = absurd (mem-nil m)
+  mem-of-bind f (z ∷ zs) {y} m = go (List·Memᴰ·append-cases (f z) m) (λ k. mem-of-bind f zs k)
+    where
+      go : Mem y (f z) ⊎ Mem y (bind f zs) → (Mem y (bind f zs) → (x : A) × Mem x zs × Mem y (f x)) → (x : A) × Mem x (z ∷ zs) × Mem y (f x)
+      go (inl k) r = (z, here refl, k)
+      go (inr k) r = let q = r k in (q .0, there (q .1), q .2)
+
+pub elem→ : (c : ℕ) (xs : List ℕ) → T (elem c xs) → Mem c xs
+elem→ c xs h = let q = some→ (λ (x : ℕ). eqb c x) xs h in Memᴰ·cast (eqb→eq c (q .0) (q .2)) (q .1)
+
+pub →elem : (c : ℕ) (xs : List ℕ) → Mem c xs → T (elem c xs)
+→elem c xs m = →some (λ (x : ℕ). eqb c x) xs m (eq→eqb c c refl)

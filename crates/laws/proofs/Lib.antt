@@ -1,0 +1,16 @@
+-- tests: conjunction, disjunction, equal tests
+pub mod Tests
+-- the digits of a number decide it
+pub mod Digits
+-- inside, apart, union and what is left
+pub mod Cluster
+-- the number of taxa, one-taxon clusters, highest and lowest taxon
+pub mod Taxa
+-- filters and tests of lists
+pub mod Keep
+-- lists without repetition
+pub mod Once
+-- sublists
+pub mod Sublists
+-- the order of the integers, and sums
+pub mod Integers

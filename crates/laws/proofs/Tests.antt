@@ -1,0 +1,56 @@
+-- Laws of tests: a test is a Bool, and `T b` says that it passes.
+--     T-and, and-T, T-or, or-l, or-r     conjunction and disjunction, out of and into
+--     T-dec             a test passes or doesn't
+--     T-true, T-false   a test that passes, or can't, as an equation
+--     bool-ext          tests that pass together are equal
+--     eq→eqb            equal numbers pass the test of equality
+-- Assumes nothing.
+use mathlib.Core.Path.{_≡_, refl, sym, subst}
+use mathlib.Core.Logic.{_⊎_, inl, inr}
+use mathlib.Core.Bool.{Bool, true, false, not, _&&_, _||_}
+use Prim.Native.Nat.{ℕ}
+use lib.Dec.{T, eqb, eqb-refl}
+
+pub T-and : (a b : Bool) → T (a && b) → T a × T b
+T-and true b h = (tt, h)
+T-and false b h = absurd h
+
+pub and-T : (a b : Bool) → T a → T b → T (a && b)
+and-T true b h k = k
+and-T false b h k = absurd h
+
+pub T-or : (a b : Bool) → T (a || b) → T a ⊎ T b
+T-or true b h = inl tt
+T-or false b h = inr h
+
+pub or-l : (a b : Bool) → T a → T (a || b)
+or-l true b h = tt
+or-l false b h = absurd h
+
+pub or-r : (a b : Bool) → T b → T (a || b)
+or-r true b h = tt
+or-r false b h = h
+
+pub T-dec : (a : Bool) → T a ⊎ (T a → ⊥)
+T-dec true = inl tt
+T-dec false = inr (λ h. h)
+
+pub bool-ext : (a b : Bool) → (T a → T b) → (T b → T a) → a ≡ b
+bool-ext true true f g = refl
+bool-ext true false f g = absurd (f tt)
+bool-ext false true f g = absurd (g tt)
+bool-ext false false f g = refl
+
+pub eq→eqb : (m n : ℕ) → m ≡ n → T (eqb m n)
+eq→eqb m n e = subst (λ (x : ℕ). T (eqb m x)) e (eqb-refl m)
+
+pub T-true : (b : Bool) → T b → b ≡ true
+T-true true h = refl
+T-true false h = absurd h
+
+pub T-false : (b : Bool) → (T b → ⊥) → b ≡ false
+T-false true h = absurd (h tt)
+T-false false h = refl
+
+pub true-T : {b : Bool} → b ≡ true → T b
+true-T e = subst T (sym e) tt
