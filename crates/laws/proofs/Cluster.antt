@@ -149,8 +149,8 @@ or-half x y = or-shr x y 1
 pub union-lt : (e x y : ℕ) → T (apart e x) → T (apart e y) → x < e → y < e → bitOr x y < e
 union-lt =
     bin-ind (λ (e : ℕ). (x y : ℕ) → T (apart e x) → T (apart e y) → x < e → y < e → bitOr x y < e)
-      (λ x y a b l m. absurd (omega arith))
-      (λ e ih x y a b l m. go e x y a b l m (ℕ-discrete (e / 2) 0) (λ n. ih (x / 2) (y / 2) (half-apart e x a) (half-apart e y b) (half-less x e a l n) (half-less y e b m n)))
+    (λ x y a b l m. absurd (omega arith))
+    (λ e ih x y a b l m. go e x y a b l m (ℕ-discrete (e / 2) 0) (λ n. ih (x / 2) (y / 2) (half-apart e x a) (half-apart e y b) (half-less x e a l n) (half-less y e b m n)))
   where
     go : (e x y : ℕ) → T (apart e x) → T (apart e y) → x < e → y < e → Dec (e / 2 ≡ 0) → (e / 2 ≢ 0 → bitOr (x / 2) (y / 2) < e / 2) → bitOr x y < e
     go e x y a b l m (yes q) ih =

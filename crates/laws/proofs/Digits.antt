@@ -60,13 +60,13 @@ same-step a b h t = digit-suc a t ∙ h (1 + t) ∙ sym (digit-suc b t)
 zero-ext : (b : ℕ) → ((t : ℕ) → digit b t ≡ 0) → b ≡ 0
 zero-ext =
     bin-ind (λ (b : ℕ). ((t : ℕ) → digit b t ≡ 0) → b ≡ 0) (λ h. refl)
-      (λ b ih h. halves-eq b 0 (ih (λ t. digit-suc b t ∙ h (1 + t))) (sym (digit-low b) ∙ h 0))
+    (λ b ih h. halves-eq b 0 (ih (λ t. digit-suc b t ∙ h (1 + t))) (sym (digit-low b) ∙ h 0))
 
 pub digit-ext : (a b : ℕ) → ((t : ℕ) → digit a t ≡ digit b t) → a ≡ b
 digit-ext =
     bin-ind (λ (a : ℕ). (b : ℕ) → ((t : ℕ) → digit a t ≡ digit b t) → a ≡ b)
-      (λ b h. sym (zero-ext b (λ t. sym (h t) ∙ digit-zero t)))
-      (λ a ih b h. halves-eq a b (ih (b / 2) (same-step a b h)) (sym (digit-low a) ∙ h 0 ∙ digit-low b))
+    (λ b h. sym (zero-ext b (λ t. sym (h t) ∙ digit-zero t)))
+    (λ a ih b h. halves-eq a b (ih (b / 2) (same-step a b h)) (sym (digit-low a) ∙ h 0 ∙ digit-low b))
 
 -- ---- a taxon in a cluster, as a type
 pub record Has (c t : ℕ) : Type 0 where

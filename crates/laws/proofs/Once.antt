@@ -53,7 +53,7 @@ module _ {A : Type 0} where
   once-length-le [] ys d f = zero-le
   once-length-le (x ∷ xs) ys d f =
       subst (λ (n : ℕ). suc (length xs) ≤ n) (sym (cut-length ys (f x (here refl))))
-        (suc-le-suc (once-length-le xs (cut ys (f x (here refl))) (d .1) (λ y m. cut-mem ys (f x (here refl)) y (f y (there m)) (λ e. d .0 (Memᴰ·cast (sym e) m)))))
+      (suc-le-suc (once-length-le xs (cut ys (f x (here refl))) (d .1) (λ y m. cut-mem ys (f x (here refl)) y (f y (there m)) (λ e. d .0 (Memᴰ·cast (sym e) m)))))
 
   pub once-length : (xs ys : List A) → Once xs → Once ys → ((x : A) → Mem x xs → Mem x ys) → ((x : A) → Mem x ys → Mem x xs) → length xs ≡ length ys
   once-length xs ys d e f g = le-antisymm (once-length-le xs ys d f) (once-length-le ys xs e g)
@@ -70,7 +70,7 @@ module _ {A B : Type 0} where
   once-bind f [] d h i = tt
   once-bind f (x ∷ xs) d h i =
       once-append (f x) (bind f xs) (h x (here refl)) (once-bind f xs (d .1) (λ z m. h z (there m)) (λ a b y m k p q. i a b y (there m) (there k) p q))
-        (λ y m k. let q = mem-of-bind f xs k in d .0 (Memᴰ·cast (i x (q .0) y (here refl) (there (q .1)) m (q .2)) (q .1)))
+      (λ y m k. let q = mem-of-bind f xs k in d .0 (Memᴰ·cast (i x (q .0) y (here refl) (there (q .1)) m (q .2)) (q .1)))
 
 module _ {A : Type 0} where
   pub once-map-keep : (f : A → ℕ) (p : A → Bool) (l : List A) → Once (map f l) → Once (map f (keep p l))

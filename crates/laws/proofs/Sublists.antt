@@ -53,8 +53,8 @@ module _ {A : Type 0} where
   sub-nodup [] d = (mem-nil, tt)
   sub-nodup (x ∷ xs) d =
       once-append (sublists xs) (map (λ (l : List A). x ∷ l) (sublists xs)) (sub-nodup xs (d .1))
-        (once-map (λ (l : List A). x ∷ l) (sublists xs) (sub-nodup xs (d .1)) (λ a b m k e. tail-eq-of-cons-eq e))
-        (λ s m k. let q = Memᴰ·of-map (λ (l : List A). x ∷ l) (sublists xs) k in d .0 (mem-of-sublist xs s m x (subst (Mem x) (q .2) (here refl))))
+      (once-map (λ (l : List A). x ∷ l) (sublists xs) (sub-nodup xs (d .1)) (λ a b m k e. tail-eq-of-cons-eq e))
+      (λ s m k. let q = Memᴰ·of-map (λ (l : List A). x ∷ l) (sublists xs) k in d .0 (mem-of-sublist xs s m x (subst (Mem x) (q .2) (here refl))))
 
   -- a sublist is what its members are
   pub sublist-is-keep : (p : A → Bool) (l s : List A) → Once l → Mem s (sublists l) → ((x : A) → Mem x l → Mem x s → T (p x)) → ((x : A) → Mem x l → T (p x) → Mem x s) → s ≡ keep p l

@@ -21,15 +21,15 @@ pub record Width : Type 0 where
 
 abbrev pub narrow : Width
 narrow = record {
-    taxa = 32;
-    rows = 128;
-    clusterBytes = 4;
-    recordBytes = 12;
-    listBytes = 1536;
-    textBytes = 148;
-    countMax = 4294967295;
-    lengthMax = 10676001
-  }
+  taxa = 32;
+  rows = 128;
+  clusterBytes = 4;
+  recordBytes = 12;
+  listBytes = 1536;
+  textBytes = 148;
+  countMax = 4294967295;
+  lengthMax = 10676001;
+}
 
 abbrev pub weightMax : ℕ
 weightMax = 1000000
