@@ -49,11 +49,11 @@ module _ {A : Type 0} where
       go (inl h) ih = there (ih s h x m)
       go (inr q) ih = cs (q .0) (subst (Mem x) (sym (q .2)) m) (λ n. ih (q .0) (q .1) x n)
 
-  pub sub-nodup : (l : List A) → Once l → Once (sublists l)
-  sub-nodup [] d = (mem-nil, tt)
-  sub-nodup (x ∷ xs) d =
-      once-append (sublists xs) (map (λ (l : List A). x ∷ l) (sublists xs)) (sub-nodup xs (d .1))
-      (once-map (λ (l : List A). x ∷ l) (sublists xs) (sub-nodup xs (d .1)) (λ a b m k e. tail-eq-of-cons-eq e))
+  pub sublists-once : (l : List A) → Once l → Once (sublists l)
+  sublists-once [] d = (mem-nil, tt)
+  sublists-once (x ∷ xs) d =
+      once-append (sublists xs) (map (λ (l : List A). x ∷ l) (sublists xs)) (sublists-once xs (d .1))
+      (once-map (λ (l : List A). x ∷ l) (sublists xs) (sublists-once xs (d .1)) (λ a b m k e. tail-eq-of-cons-eq e))
       (λ s m k. let q = Memᴰ·of-map (λ (l : List A). x ∷ l) (sublists xs) k in d .0 (mem-of-sublist xs s m x (subst (Mem x) (q .2) (here refl))))
 
   -- a sublist is what its members are

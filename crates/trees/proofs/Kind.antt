@@ -1,0 +1,153 @@
+-- One row formula for any kind of result: a sum over the tuples of the products of the children's results. Counting, the key of the first
+-- heaviest tree and the list of the trees themselves are kinds of it.
+--     Kind                    what results of one kind need: none, unit, plus, times, and a row's own
+--     sumK, prodK, overTuples sums and products of lists; the sum over tuples of the products
+--     value, build            the row formula, and a table built by it
+--     tableOf F rs            a table by any row formula F: each row worked out from the rows beneath
+--     Lawful                  the laws of a semiring, as far as the search needs them
+--     pairKind                two kinds at once
+--     mapE, Hom, hom-…        a map that respects the operations carries one table to another
+-- Assumes nothing.
+use mathlib.Core.Path.{_≡_, refl, sym, ap, ap₂, _∙_}
+use mathlib.Core.Bool.{Bool, true, false}
+use mathlib.Core.List.{List, [], _∷_, map}
+use Prim.Native.Nat.{ℕ}
+use Rattle.laws.specs.Cluster.{single}
+use Rattle.laws.specs.Lists.{keep, sublists}
+use Rattle.laws.proofs.Keep.{keep-ext, keep-map}
+use Rattle.laws.proofs.Sublists.{sublists-map}
+use Rattle.trees.specs.Rows.{Row, isScored, Entry, cl, sc}
+use Rattle.trees.specs.Tuple.{isTuple, tuples}
+use Rattle.trees.specs.Rescored.{summed}
+
+pub record Kind (A : Type 0) : Type 0 where
+  pub none : A
+  pub unit : A
+  pub plus : A → A → A
+  pub times : A → A → A
+  pub own : Row → A
+
+module _ {A : Type 0} (F : Row → List (Entry A) → A) where
+  abbrev pub tableOf : List Row → List (Entry A)
+  tableOf [] = []
+  tableOf (r ∷ rs) = record { row = r; val = F r (tableOf rs) } ∷ tableOf rs
+
+module _ {A : Type 0} (k : Kind A) where
+  abbrev pub sumK : List A → A
+  sumK [] = k .none
+  sumK (x ∷ xs) = k .plus x (sumK xs)
+
+  abbrev pub prodK : List (Entry A) → A
+  prodK [] = k .unit
+  prodK (e ∷ τ) = k .times (e .val) (prodK τ)
+
+  abbrev pub overTuples : List (List (Entry A)) → A
+  overTuples τs = sumK (map prodK τs)
+
+  abbrev pub valueIf : Bool → Bool → ℕ → Row → List (Entry A) → A
+  valueIf false one d r t = k .none
+  valueIf true true d r t = k .own r
+  valueIf true false d r t = k .times (k .own r) (overTuples (tuples d (r .cluster) (summed r t)))
+
+  abbrev pub value : ℕ → Row → List (Entry A) → A
+  value d r t = valueIf (isScored r) (single (r .cluster)) d r t
+
+  abbrev pub build : ℕ → List Row → List (Entry A)
+  build d rs = tableOf (value d) rs
+
+  pub record Lawful : Type 0 where
+    pub plus-none : (x : A) → k .plus x (k .none) ≡ x
+    pub plus-assoc : (x y z : A) → k .plus (k .plus x y) z ≡ k .plus x (k .plus y z)
+    pub plus-comm : (x y : A) → k .plus x y ≡ k .plus y x
+    pub times-none : (x : A) → k .times x (k .none) ≡ k .none
+    pub times-unit : (x : A) → k .times x (k .unit) ≡ x
+    pub times-plus : (x y z : A) → k .times x (k .plus y z) ≡ k .plus (k .times x y) (k .times x z)
+
+-- ---- the same rows with other results
+
+module _ {A B : Type 0} (h : A → B) where
+  abbrev pub mapE : Entry A → Entry B
+  mapE e = record { row = e .row; val = h (e .val) }
+
+  pub cl-map : (τ : List (Entry A)) → map cl (map mapE τ) ≡ map cl τ
+  cl-map [] = refl
+  cl-map (e ∷ τ) = ap (λ (cs : List ℕ). cl e ∷ cs) (cl-map τ)
+
+  pub tuples-map : (d C : ℕ) (es : List (Entry A)) → tuples d C (map mapE es) ≡ map (map mapE) (tuples d C es)
+  tuples-map d C es =
+      ap (keep (λ (τ : List (Entry B)). isTuple d C (map cl τ))) (sublists-map mapE es)
+      ∙ keep-map (map mapE) (λ (τ : List (Entry B)). isTuple d C (map cl τ)) (sublists es)
+      ∙ ap (map (map mapE))
+      (keep-ext (λ (τ : List (Entry A)). isTuple d C (map cl (map mapE τ))) (λ (τ : List (Entry A)). isTuple d C (map cl τ)) (sublists es)
+      (λ τ _. ap (isTuple d C) (cl-map τ)))
+
+module _ {A B : Type 0} (ka : Kind A) (kb : Kind B) (h : A → B) where
+  -- h respects the operations
+  pub record Hom : Type 0 where
+    pub none : h (ka .none) ≡ kb .none
+    pub unit : h (ka .unit) ≡ kb .unit
+    pub plus : (x y : A) → h (ka .plus x y) ≡ kb .plus (h x) (h y)
+    pub times : (x y : A) → h (ka .times x y) ≡ kb .times (h x) (h y)
+    pub own : (r : Row) → h (ka .own r) ≡ kb .own r
+
+  module _ (hom : Hom) where
+    hom-prod : (τ : List (Entry A)) → prodK kb (map (mapE h) τ) ≡ h (prodK ka τ)
+    hom-prod [] = sym (hom .unit)
+    hom-prod (e ∷ τ) = ap (λ (x : B). kb .times (h (e .val)) x) (hom-prod τ) ∙ sym (hom .times (e .val) (prodK ka τ))
+
+    pub hom-sum : (τs : List (List (Entry A))) → overTuples kb (map (map (mapE h)) τs) ≡ h (overTuples ka τs)
+    hom-sum [] = sym (hom .none)
+    hom-sum (τ ∷ τs) = ap₂ (kb .plus) (hom-prod τ) (hom-sum τs) ∙ sym (hom .plus (prodK ka τ) (overTuples ka τs))
+
+    pub hom-value : (d : ℕ) (r : Row) (t : List (Entry A)) → value kb d r (map (mapE h) t) ≡ h (value ka d r t)
+    hom-value d r t = go (isScored r) (single (r .cluster))
+      where
+        C : ℕ
+        C = r .cluster
+
+        τs : List (List (Entry A))
+        τs = tuples d (r .cluster) (summed r t)
+
+        go : (s b : Bool) → valueIf kb s b d r (map (mapE h) t) ≡ h (valueIf ka s b d r t)
+        go false b = sym (hom .none)
+        go true true = sym (hom .own r)
+        go true false =
+            ap₂ (kb .times) (sym (hom .own r))
+            (ap (λ (es : List (Entry B)). overTuples kb (tuples d C es)) (keep-map (mapE h) sc t)
+            ∙ ap (overTuples kb) (tuples-map h d C (keep sc t))
+            ∙ hom-sum τs)
+            ∙ sym (hom .times (ka .own r) (overTuples ka τs))
+
+    pub hom-build : (d : ℕ) (rs : List Row) → build kb d rs ≡ map (mapE h) (build ka d rs)
+    hom-build d [] = refl
+    hom-build d (r ∷ rs) =
+        ap (λ (t : List (Entry B)). record { row = r; val = value kb d r t } ∷ t) (hom-build d rs)
+        ∙ ap (λ (v : B). record { row = r; val = v } ∷ map (mapE h) (build ka d rs)) (hom-value d r (build ka d rs))
+
+-- ---- two kinds at once
+
+module _ {A B : Type 0} (ka : Kind A) (kb : Kind B) where
+  abbrev pub pairKind : Kind (A × B)
+  pairKind = record {
+    none = (ka .none, kb .none);
+    unit = (ka .unit, kb .unit);
+    plus = λ x y. (ka .plus (x .0) (y .0), kb .plus (x .1) (y .1));
+    times = λ x y. (ka .times (x .0) (y .0), kb .times (x .1) (y .1));
+    own = λ r. (ka .own r, kb .own r);
+  }
+
+  pub hom-first : Hom pairKind ka (λ (x : A × B). x .0)
+  hom-first = record { none = refl; unit = refl; plus = λ x y. refl; times = λ x y. refl; own = λ r. refl }
+
+  pub hom-second : Hom pairKind kb (λ (x : A × B). x .1)
+  hom-second = record { none = refl; unit = refl; plus = λ x y. refl; times = λ x y. refl; own = λ r. refl }
+
+  pub pair-lawful : Lawful ka → Lawful kb → Lawful pairKind
+  pair-lawful a b = record {
+    plus-none = λ x i. (a .plus-none (x .0) i, b .plus-none (x .1) i);
+    plus-assoc = λ x y z i. (a .plus-assoc (x .0) (y .0) (z .0) i, b .plus-assoc (x .1) (y .1) (z .1) i);
+    plus-comm = λ x y i. (a .plus-comm (x .0) (y .0) i, b .plus-comm (x .1) (y .1) i);
+    times-none = λ x i. (a .times-none (x .0) i, b .times-none (x .1) i);
+    times-unit = λ x i. (a .times-unit (x .0) i, b .times-unit (x .1) i);
+    times-plus = λ x y z i. (a .times-plus (x .0) (y .0) (z .0) i, b .times-plus (x .1) (y .1) (z .1) i);
+  }

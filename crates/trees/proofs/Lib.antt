@@ -1,0 +1,12 @@
+-- sets of clusters as tests
+pub mod Families
+-- a tree as facts about a family
+pub mod TreeFacts
+-- the trees of the children of a tuple, joined
+pub mod Cuts
+-- what it says to be a tuple
+pub mod Tuples
+-- the trees of a row
+pub mod RowTrees
+-- the row formula for any kind of result
+pub mod Kind
