@@ -8,5 +8,11 @@ pub mod Cuts
 pub mod Tuples
 -- the trees of a row
 pub mod RowTrees
+-- rows that fall, and the rows of a table
+pub mod Rows
+-- a table of lists of trees
+pub mod TableTrees
 -- the row formula for any kind of result
 pub mod Kind
+-- the definition's test of a tree, and the facts
+pub mod TreeTest
