@@ -16,3 +16,5 @@ pub mod TableTrees
 pub mod Kind
 -- the definition's test of a tree, and the facts
 pub mod TreeTest
+-- weights with sets as numbers, and their order
+pub mod Keys
