@@ -39,7 +39,7 @@ pub →first : (x y : Key) → First x y → T (keyFirst x y)
 →first x y (heavier h) = or-l (ltZ (y .0) (x .0)) (not (ltZ (x .0) (y .0)) && ltb (y .1) (x .1)) h
 →first x y (level e l) =
     or-r (ltZ (y .0) (x .0)) (not (ltZ (x .0) (y .0)) && ltb (y .1) (x .1))
-      (and-T (not (ltZ (x .0) (y .0))) (ltb (y .1) (x .1)) (not-T (ltZ (x .0) (y .0)) (flat (x .0) (y .0) e)) (lt→ltb (y .1) (x .1) l))
+    (and-T (not (ltZ (x .0) (y .0))) (ltb (y .1) (x .1)) (not-T (ltZ (x .0) (y .0)) (flat (x .0) (y .0) e)) (lt→ltb (y .1) (x .1) l))
 
 pub first→ : (x y : Key) → T (keyFirst x y) → First x y
 first→ x y h = go (T-or (ltZ (y .0) (x .0)) (not (ltZ (x .0) (y .0)) && ltb (y .1) (x .1)) h)
@@ -186,7 +186,7 @@ join-comm x y = λ i. (+ℤ-comm (x .0) (y .0) i, (let q : x .1 + y .1 ≡ y .1 
 pub join-least : (x y a b : Key) → AtLeast x a → AtLeast y b → AtLeast (joinK x y) (joinK a b)
 join-least x y a b h k =
     least-trans (joinK x y) (joinK x b) (joinK a b) (sym (join-top x y b) ∙ ap (joinK x) k)
-      (subst₂ AtLeast (join-comm b x) (join-comm b a) (sym (join-top b x a) ∙ ap (joinK b) h))
+    (subst₂ AtLeast (join-comm b x) (join-comm b a) (sym (join-top b x a) ∙ ap (joinK b) h))
 
 -- ---- counts, and counts with keys
 
@@ -195,13 +195,13 @@ countKind = record { none = 0; unit = 1; plus = _+_; times = _*_; own = λ r. 1 
 
 pub count-lawful : Lawful countKind
 count-lawful = record {
-    plus-none = λ x. omega arith;
-    plus-assoc = λ x y z. omega arith;
-    plus-comm = λ x y. omega arith;
-    times-none = mul-zero;
-    times-unit = mul-one;
-    times-plus = mul-add
-  }
+  plus-none = λ x. omega arith;
+  plus-assoc = λ x y z. omega arith;
+  plus-comm = λ x y. omega arith;
+  times-none = mul-zero;
+  times-unit = mul-one;
+  times-plus = mul-add;
+}
 
 abbrev pub Sol : Type 0
 Sol = ℕ × Key
@@ -219,12 +219,12 @@ timesSol (some x) (some y) = some (x .0 * y .0, joinK (x .1) (y .1))
 module _ (bit : ℕ → ℕ) where
   abbrev pub solKind : Kind (Option Sol)
   solKind = record {
-      none = none;
-      unit = some (1, (pos 0, 0));
-      plus = plusSol;
-      times = timesSol;
-      own = λ r. some (1, (r .weight, bit (r .cluster)))
-    }
+    none = none;
+    unit = some (1, (pos 0, 0));
+    plus = plusSol;
+    times = timesSol;
+    own = λ r. some (1, (r .weight, bit (r .cluster)));
+  }
 
   pub sol-lawful : Lawful solKind
   sol-lawful = record { plus-none = pn; plus-assoc = pa; plus-comm = pc; times-none = tn; times-unit = tu; times-plus = tp }

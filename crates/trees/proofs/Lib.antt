@@ -18,3 +18,7 @@ pub mod Kind
 pub mod TreeTest
 -- weights with sets as numbers, and their order
 pub mod Keys
+-- a set of clusters as one number, and its weight
+pub mod Marks
+-- a row's count and the key of its first heaviest tree
+pub mod Best

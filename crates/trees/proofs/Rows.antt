@@ -1,5 +1,4 @@
 -- Rows that fall: the largest cluster first, none twice, none empty, all within the width.
---     Falling cs             each number is larger than all that follow
 --     RowFacts w rs          what holds of the rows of any accepted list of w taxa
 --     facts-tail             and of its smaller rows
 --     table-row, row-table   the rows of a table, by any row formula, are the rows it was made of
@@ -16,19 +15,12 @@ use Prim.Native.Nat.{ℕ, _^_, _<_}
 use native.Mathlib.Omega.{arith}
 use lib.Dec.{T}
 use Rattle.laws.specs.Lists.{keepIf, keep, Once}
+use Rattle.laws.proofs.Falling.{Falling, falling-once}
 use Rattle.laws.proofs.Keep.{mem-keep, mem-of-keep}
 use Rattle.laws.proofs.Once.{once-map-keep}
 use Rattle.trees.specs.Rows.{Row, isScored, clustersOf, scoredIn, Entry, cl}
 use Rattle.trees.proofs.Kind.{tableOf}
 use Rattle.trees.proofs.TreeFacts.{Given}
-
-abbrev pub Falling : List ℕ → Type 0
-Falling [] = Unit {0}
-Falling (c ∷ cs) = ((x : ℕ) → Mem x cs → x < c) × Falling cs
-
-pub falling-once : (cs : List ℕ) → Falling cs → Once cs
-falling-once [] h = tt
-falling-once (c ∷ cs) h = (λ m. omega (arith, h .0 c m), falling-once cs (h .1))
 
 pub record RowFacts (w : ℕ) (rs : List Row) : Type 0 where
   pub falls : Falling (clustersOf rs)

@@ -14,6 +14,7 @@ use native.Mathlib.Omega.{arith}
 use lib.Dec.{T}
 use Rattle.laws.specs.Cluster.{strict, single}
 use Rattle.laws.specs.Lists.{keep, bind, Once}
+use Rattle.laws.proofs.Falling.{falling-once}
 use Rattle.laws.proofs.Tests.{true-T}
 use Rattle.laws.proofs.Keep.{mem-keep, mem-of-keep}
 use Rattle.laws.proofs.Once.{once-map-keep}
@@ -25,7 +26,7 @@ use Rattle.trees.proofs.Kind.{Kind, prodK, overTuples, valueIf, value, 
 use Rattle.trees.proofs.TreeFacts.{Given}
 use Rattle.trees.proofs.Cuts.{Right, combos}
 use Rattle.trees.proofs.RowTrees.{Beneath, single-right, row-right}
-use Rattle.trees.proofs.Rows.{RowFacts, falling-once, facts-tail, above-rest, table-row, row-table, table-clusters, scored-mem, mem-scored, givenOf}
+use Rattle.trees.proofs.Rows.{RowFacts, facts-tail, above-rest, table-row, row-table, table-clusters, scored-mem, mem-scored, givenOf}
 
 abbrev pub treesKind : Kind (List Fam)
 treesKind = record { none = []; unit = empty ∷ []; plus = _++_; times = cross; own = λ r. one (r .cluster) ∷ [] }
