@@ -22,3 +22,7 @@ pub mod Keys
 pub mod Marks
 -- a row's count and the key of its first heaviest tree
 pub mod Best
+-- the row worked out from the fields
+pub mod Worked
+-- counts stopped at a limit
+pub mod Capped
