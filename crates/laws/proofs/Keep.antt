@@ -3,7 +3,7 @@
 --     every→, →every, some→, →some, elem→, →elem     a test of a list, as a statement about its elements
 --     mem-bind, mem-of-bind           into the lists of `bind`, and out of them
 --     keep-ext, some-ext              equal tests
---     keep-keep, some-keep, keep-map, keep-append, keep-none, keep-all, keep-swap, length-keep-le
+--     keep-keep, some-keep, keep-map, keep-append, keep-none, keep-none-mem, keep-all, keep-swap, length-keep-le
 -- Assumes nothing.
 use mathlib.Core.Path.{_≡_, refl, sym, ap, ap₂, _∙_, subst}
 use mathlib.Core.Logic.{_⊎_, inl, inr, _≢_}
@@ -15,7 +15,7 @@ use native.Mathlib.Nat.{le-suc, le-trans}
 use lib.Dec.{T, eqb, eqb→eq}
 use lib.ListN.{length}
 use Rattle.laws.specs.Lists.{keepIf, keep, every, some, elem, bind}
-use Rattle.laws.proofs.Tests.{T-and, and-T, T-or, or-l, or-r, T-true, eq→eqb}
+use Rattle.laws.proofs.Tests.{T-and, and-T, T-or, or-l, or-r, T-true, T-false, eq→eqb}
 
 module _ {A : Type 0} where
   pub mem-keep : (p : A → Bool) (l : List A) {x : A} → Mem x l → T (p x) → Mem x (keep p l)
@@ -101,6 +101,10 @@ module _ {A : Type 0} where
       go : (b : Bool) → p x ≡ b → keep p xs ≡ [] → keepIf b x (keep p xs) ≡ []
       go true e r = absurd (f x (subst T (sym e) tt))
       go false e r = r
+
+  pub keep-none-mem : (p : A → Bool) (l : List A) → ((x : A) → Mem x l → T (p x) → ⊥) → keep p l ≡ []
+  keep-none-mem p [] f = refl
+  keep-none-mem p (x ∷ xs) f = ap₂ (λ (b : Bool) (r : List A). keepIf b x r) (T-false (p x) (f x (here refl))) (keep-none-mem p xs (λ y m. f y (there m)))
 
   pub keep-all : (p : A → Bool) (l : List A) → ((x : A) → Mem x l → T (p x)) → keep p l ≡ l
   keep-all p [] f = refl

@@ -132,8 +132,8 @@ module _ (limit : ℕ) (pos-limit : 1 ≤ limit) where
     case-none z =
         let c : fieldsE e .val .count ≡ 0 = fields-of limit (e .val .0) (e .val .1) .0 ∙ ap (countField limit) z ∙ count-small limit 0 (omega arith) .0 in
         dead (ap (λ (x : ℕ). not (eqb x 0) && isLive (fieldsT τ)) c)
-          (ap (λ (x : ℕ). x * timesCounts (fieldsT τ)) c ∙ zero-mul (timesCounts (fieldsT τ)))
-          (ap (λ (x : ℕ). x * trueTimes τ) z ∙ zero-mul (trueTimes τ))
+        (ap (λ (x : ℕ). x * timesCounts (fieldsT τ)) c ∙ zero-mul (timesCounts (fieldsT τ)))
+        (ap (λ (x : ℕ). x * trueTimes τ) z ∙ zero-mul (trueTimes τ))
 
     live-of : (x : ℕ) → fieldsE e .val .count ≡ x → 1 ≤ x → live ≡ true
     live-of x c h = ap (λ (y : ℕ). not (eqb y 0)) c ∙ ap not (T-false (eqb x 0) (λ t. omega (arith, eqb→eq x 0 t)))
@@ -161,7 +161,7 @@ module _ (limit : ℕ) (pos-limit : 1 ≤ limit) where
             plain (ap₂ (λ (x y : Bool). x && y) (live-of n c h) a) (ap₂ (λ (x y : Bool). x || y) m b) (ap₂ (λ (x y : ℕ). x * y) c t) (one-le-mul h p)
         go (large a b p) =
             large (ap₂ (λ (x y : Bool). x && y) (live-of n c h) a) (ap₂ (λ (x y : Bool). x || y) m b)
-              (omega (arith, mul-le-mul-right (trueTimes τ) h, one-mul (trueTimes τ), p))
+            (omega (arith, mul-le-mul-right (trueTimes τ) h, one-mul (trueTimes τ), p))
 
     case-large : limit < n → Case τ → Case (e ∷ τ)
     case-large l k = go k
@@ -234,7 +234,7 @@ module _ (limit : ℕ) (pos-limit : 1 ≤ limit) where
         go : Sums τs → Fields (isMany limit (map fieldsT τs)) (sumCounts (map fieldsT τs))
         go (exact b s) =
             subst (λ (x : Bool). Fields (x || ltb limit (sumCounts (map fieldsT τs))) (sumCounts (map fieldsT τs))) (sym b)
-              (subst (λ (x : ℕ). Fields (ltb limit x) x) (sym s) (by-limit (past limit (trueSum τs))))
+            (subst (λ (x : ℕ). Fields (ltb limit x) x) (sym s) (by-limit (past limit (trueSum τs))))
         go (many b h) =
             let q = count-large limit (trueSum τs) h in
             subst (λ (x : Bool). Fields (x || ltb limit (sumCounts (map fieldsT τs))) (sumCounts (map fieldsT τs))) (sym b) (sym (q .0), sym (q .1))

@@ -26,3 +26,5 @@ pub mod Best
 pub mod Worked
 -- counts stopped at a limit
 pub mod Capped
+-- the row length, among all rows and among the rows beneath
+pub mod RowLength

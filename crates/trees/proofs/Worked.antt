@@ -160,15 +160,15 @@ module _ (W : Width) (pos-limit : 1 ≤ W .countMax) (d : ℕ) (cs : List ℕ) (
       → joined W cs r n fields (keyPart v) ≡ encodeSol limit n (timesSol (some (1, (r .weight, markIn cs (r .cluster)))) v)
   own-times n none e = refl
   own-times n (some x) e = λ i. record {
-      length = n;
-      count = (many-is limit pos-limit τs .0 ∙ ap (countField limit) (e ∙ sym (one-mul (x .0)))) i;
-      mark = (many-is limit pos-limit τs .1 ∙ ap (markField limit) (e ∙ sym (one-mul (x .0)))) i;
-      best = r .weight +ℤ x .1 .0;
-      members = markIn cs (r .cluster) + x .1 .1
-    }
+    length = n;
+    count = (many-is limit pos-limit τs .0 ∙ ap (countField limit) (e ∙ sym (one-mul (x .0)))) i;
+    mark = (many-is limit pos-limit τs .1 ∙ ap (markField limit) (e ∙ sym (one-mul (x .0)))) i;
+    best = r .weight +ℤ x .1 .0;
+    members = markIn cs (r .cluster) + x .1 .1;
+  }
 
   together-is : joined W cs r (length (tuples d (r .cluster) (keep sc (map (mapE (encode limit)) t)))) (tuples d (r .cluster) (keep sc (map (mapE (encode limit)) t)))
-        (firstKey (map keyOf (keep isLive (tuples d (r .cluster) (keep sc (map (mapE (encode limit)) t))))))
+      (firstKey (map keyOf (keep isLive (tuples d (r .cluster) (keep sc (map (mapE (encode limit)) t))))))
       ≡ encodeSol limit (length τs) (timesSol (K .own r) (overTuples K (tuples d (r .cluster) (keep sc (map second t)))))
   together-is =
       ap (λ (σs : List (List (Entry Result))). joined W cs r (length σs) σs (firstKey (map keyOf (keep isLive σs)))) fields-are
