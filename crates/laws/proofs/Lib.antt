@@ -14,3 +14,5 @@ pub mod Once
 pub mod Sublists
 -- the order of the integers, and sums
 pub mod Integers
+-- lists of numbers that fall strictly, and their sublists
+pub mod Falling

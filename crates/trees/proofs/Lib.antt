@@ -10,3 +10,5 @@ pub mod Tuples
 pub mod RowTrees
 -- the row formula for any kind of result
 pub mod Kind
+-- a set of clusters as a number, and its weight
+pub mod Marks

@@ -1,0 +1,49 @@
+-- Lists of numbers that fall strictly, and sublists of numbers as the tests of their members.
+--     Falling l            each number of l is larger than all that follow
+--     falling-once         such a list has no number twice
+--     elem-keep            membership in a filtered list is the test
+--     sublist-is-elem      a sublist keeps its members
+--     sublist-trans        a sublist of a sublist is a sublist
+-- Assumes nothing.
+use mathlib.Core.Path.{_≡_, sym, ap, _∙_, subst}
+use mathlib.Core.Bool.{Bool, _&&_}
+use mathlib.Core.List.{List, [], _∷_}
+use mathlib.Core.List.{List·Memᴰ as Mem}
+use Prim.Native.Nat.{ℕ, _<_}
+use native.Mathlib.Omega.{arith}
+use lib.Dec.{T}
+use Rattle.laws.specs.Lists.{keep, elem, sublists, Once}
+use Rattle.laws.proofs.Tests.{bool-ext}
+use Rattle.laws.proofs.Keep.{mem-keep, mem-of-keep, elem→, →elem, keep-keep}
+use Rattle.laws.proofs.Once.{once-keep}
+use Rattle.laws.proofs.Sublists.{sublists-keep, sublist-is-keep}
+
+abbrev pub Falling : List ℕ → Type 0
+Falling [] = Unit {0}
+Falling (c ∷ cs) = ((x : ℕ) → Mem x cs → x < c) × Falling cs
+
+pub falling-once : (cs : List ℕ) → Falling cs → Once cs
+falling-once [] f = tt
+falling-once (c ∷ cs) f = (λ m. omega (arith, f .0 c m), falling-once cs (f .1))
+
+pub elem-keep : (p : ℕ → Bool) (l : List ℕ) (c : ℕ) → (T (p c) → Mem c l) → elem c (keep p l) ≡ p c
+elem-keep p l c f =
+    bool-ext (elem c (keep p l)) (p c) (λ h. mem-of-keep p l (elem→ c (keep p l) h) .1) (λ h. →elem c (keep p l) (mem-keep p l (f h) h))
+
+pub sublist-is-elem : (cs xs : List ℕ) → Once cs → Mem xs (sublists cs) → xs ≡ keep (λ (c : ℕ). elem c xs) cs
+sublist-is-elem cs xs o m = sublist-is-keep (λ (c : ℕ). elem c xs) cs xs o m (λ c _ k. →elem c xs k) (λ c _ h. elem→ c xs h)
+
+pub sublist-trans : (cs L xs : List ℕ) → Once cs → Mem L (sublists cs) → Mem xs (sublists L) → Mem xs (sublists cs)
+sublist-trans cs L xs o m k = subst (λ (l : List ℕ). Mem l (sublists cs)) (sym whole) (sublists-keep (λ (c : ℕ). elem c L && elem c xs) cs)
+  where
+    top : L ≡ keep (λ (c : ℕ). elem c L) cs
+    top = sublist-is-elem cs L o m
+
+    once : Once L
+    once = subst Once (sym top) (once-keep (λ (c : ℕ). elem c L) cs o)
+
+    whole : xs ≡ keep (λ (c : ℕ). elem c L && elem c xs) cs
+    whole =
+        sublist-is-elem L xs once k
+        ∙ ap (keep (λ (c : ℕ). elem c xs)) top
+        ∙ keep-keep (λ (c : ℕ). elem c xs) (λ (c : ℕ). elem c L) cs
