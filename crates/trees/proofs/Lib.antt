@@ -12,3 +12,9 @@ pub mod RowTrees
 pub mod Kind
 -- a set of clusters as a number, and its weight
 pub mod Marks
+-- the order of keys
+pub mod KeyOrder
+-- the tie rule as the order of marks
+pub mod TieRule
+-- the first heaviest of several sets
+pub mod FirstHeaviest
