@@ -4,8 +4,8 @@
 --     sublists-once        a list without repetition has no sublist twice
 --     sublist-is-keep      a sublist is what its elements are
 --     sublists-map         the sublists of images
+--     sublists-map-keep    the images of a filtered list are a sublist
 --     sublists-drop        elements that no sublist of interest has may be left out first
---     sublists-front       the same for one element in front
 -- Assumes nothing.
 use mathlib.Core.Path.{_≡_, refl, sym, ap, ap₂, _∙_, subst}
 use mathlib.Core.Logic.{_⊎_, inl, inr, _≢_}
@@ -103,3 +103,6 @@ module _ {A B : Type 0} where
       swap : (ls : List (List A)) → map (λ (l : List B). g x ∷ l) (map (map g) ls) ≡ map (map g) (map (λ (l : List A). x ∷ l) ls)
       swap [] = refl
       swap (l ∷ ls) = ap (λ (r : List (List B)). (g x ∷ map g l) ∷ r) (swap ls)
+
+  pub sublists-map-keep : (g : A → B) (p : A → Bool) (l : List A) → Mem (map g (keep p l)) (sublists (map g l))
+  sublists-map-keep g p l = subst (Mem (map g (keep p l))) (sym (sublists-map g l)) (Memᴰ·map (map g) (sublists-keep p l))

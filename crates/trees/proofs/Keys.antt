@@ -1,7 +1,5 @@
--- Keys: a weight and a set as a number. The first heaviest has the largest key, and adding the same key on both sides keeps the order, so
--- counts with keys are a semiring with no side conditions.
---     First, first→, →first        x comes before y: heavier, or as heavy with the larger number
---     Order, order                 any two keys compared
+-- The first heaviest has the first key, and adding the same key on both sides keeps the order: so counts with keys are a semiring with no
+-- side conditions.
 --     top, top-self, top-comm, top-assoc     the first of two
 --     AtLeast, least-…             no key is before x
 --     joinK, join-top, join-least  keys added, and that this keeps the order
@@ -11,85 +9,31 @@
 -- Assumes nothing.
 use mathlib.Core.Path.{_≡_, refl, sym, ap, ap₂, _∙_, subst, subst₂}
 use mathlib.Core.Logic.{_⊎_, inl, inr}
-use mathlib.Core.Bool.{Bool, true, false, not, cond, _&&_, _||_}
+use mathlib.Core.Bool.{Bool, true, false, cond}
 use mathlib.Core.Option.{Option, none, some}
-use Prim.Native.Nat.{ℕ, _+_, _*_, _≤_, _<_}
-use native.Mathlib.Decide.{decLe}
+use Prim.Native.Nat.{ℕ, _+_, _*_}
 use native.Mathlib.Nat.{mul-add, mul-one, mul-zero}
 use native.Mathlib.Omega.{arith}
-use lib.Dec.{T, ltb, ltb→lt, lt→ltb, T-not, not-T}
+use lib.Dec.{T}
 use lib.IntN.{ℤ, pos, _+ℤ_, +ℤ-idr, +ℤ-comm}
 use lib.Signed.{ltZ}
-use Rattle.laws.proofs.Tests.{T-and, and-T, T-or, or-l, or-r, T-true, T-false}
-use Rattle.laws.proofs.Integers.{ltZ-trans, ltZ-irrefl, Tri, tri, ltZ-add}
+use Rattle.laws.proofs.Tests.{T-true, T-false}
+use Rattle.laws.proofs.Integers.{ltZ-add}
 use Rattle.trees.specs.Rows.{Row}
 use Rattle.trees.specs.Rescored.{Key, keyFirst}
 use Rattle.trees.proofs.Kind.{Kind, Lawful}
-
--- ---- a strict order, any two compared
-
-pub data First (x y : Key) : Type 0 where
-  heavier : T (ltZ (y .0) (x .0)) → First x y
-  level : x .0 ≡ y .0 → y .1 < x .1 → First x y
-
-flat : (a b : ℤ) → a ≡ b → T (ltZ a b) → ⊥
-flat a b e t = ltZ-irrefl a (subst (λ (z : ℤ). T (ltZ a z)) (sym e) t)
-
-pub →first : (x y : Key) → First x y → T (keyFirst x y)
-→first x y (heavier h) = or-l (ltZ (y .0) (x .0)) (not (ltZ (x .0) (y .0)) && ltb (y .1) (x .1)) h
-→first x y (level e l) =
-    or-r (ltZ (y .0) (x .0)) (not (ltZ (x .0) (y .0)) && ltb (y .1) (x .1))
-    (and-T (not (ltZ (x .0) (y .0))) (ltb (y .1) (x .1)) (not-T (ltZ (x .0) (y .0)) (flat (x .0) (y .0) e)) (lt→ltb (y .1) (x .1) l))
-
-pub first→ : (x y : Key) → T (keyFirst x y) → First x y
-first→ x y h = go (T-or (ltZ (y .0) (x .0)) (not (ltZ (x .0) (y .0)) && ltb (y .1) (x .1)) h)
-  where
-    at : T (not (ltZ (x .0) (y .0))) → y .1 < x .1 → Tri (x .0) (y .0) → First x y
-    at n l (Tri.less k) = absurd (T-not (ltZ (x .0) (y .0)) n k)
-    at n l (Tri.same e) = level e l
-    at n l (Tri.more k) = heavier k
-
-    go : T (ltZ (y .0) (x .0)) ⊎ T (not (ltZ (x .0) (y .0)) && ltb (y .1) (x .1)) → First x y
-    go (inl k) = heavier k
-    go (inr k) =
-        let q = T-and (not (ltZ (x .0) (y .0))) (ltb (y .1) (x .1)) k in
-        at (q .0) (ltb→lt (y .1) (x .1) (q .1)) (tri (x .0) (y .0))
-
-pub first-trans : (x y z : Key) → First x y → First y z → First x z
-first-trans x y z (heavier a) (heavier b) = heavier (ltZ-trans (z .0) (y .0) (x .0) b a)
-first-trans x y z (heavier a) (level e l) = heavier (subst (λ (v : ℤ). T (ltZ v (x .0))) e a)
-first-trans x y z (level e l) (heavier b) = heavier (subst (λ (v : ℤ). T (ltZ (z .0) v)) (sym e) b)
-first-trans x y z (level e l) (level f m) = level (e ∙ f) (omega arith)
-
-pub first-irrefl : (x : Key) → First x x → ⊥
-first-irrefl x (heavier h) = ltZ-irrefl (x .0) h
-first-irrefl x (level e l) = omega arith
-
-pub data Order (x y : Key) : Type 0 where
-  above : First x y → Order x y
-  equal : x ≡ y → Order x y
-  below : First y x → Order x y
-
-pub order : (x y : Key) → Order x y
-order x y = go (tri (x .0) (y .0)) (decLe (x .1) (y .1)) (decLe (y .1) (x .1))
-  where
-    go : Tri (x .0) (y .0) → Dec (x .1 ≤ y .1) → Dec (y .1 ≤ x .1) → Order x y
-    go (Tri.less h) a b = below (heavier h)
-    go (Tri.more h) a b = above (heavier h)
-    go (Tri.same e) (yes a) (yes b) = equal (λ i. (e i, (let q : x .1 ≡ y .1 = omega arith in q) i))
-    go (Tri.same e) (yes a) (no b) = below (level (sym e) (omega arith))
-    go (Tri.same e) (no a) b = above (level e (omega arith))
+use Rattle.trees.proofs.KeyOrder.{Before, heavier, level, before→, →before, key-irrefl, key-trans, Which, ahead, same, behind, which}
 
 -- ---- the first of two
 
 abbrev pub top : Key → Key → Key
 top x y = cond (keyFirst x y) x y
 
-top-l : (x y : Key) → First x y → top x y ≡ x
-top-l x y h = ap (λ (b : Bool). cond b x y) (T-true (keyFirst x y) (→first x y h))
+top-l : (x y : Key) → T (keyFirst x y) → top x y ≡ x
+top-l x y h = ap (λ (b : Bool). cond b x y) (T-true (keyFirst x y) h)
 
-top-r : (x y : Key) → First y x → top x y ≡ y
-top-r x y h = ap (λ (b : Bool). cond b x y) (T-false (keyFirst x y) (λ t. first-irrefl x (first-trans x y x (first→ x y t) h)))
+top-r : (x y : Key) → T (keyFirst y x) → top x y ≡ y
+top-r x y h = ap (λ (b : Bool). cond b x y) (T-false (keyFirst x y) (λ t. key-irrefl x (key-trans x y x t h)))
 
 pub top-cases : (x y : Key) → (top x y ≡ x) ⊎ (top x y ≡ y)
 top-cases x y = go (keyFirst x y)
@@ -106,40 +50,40 @@ top-self x = go (keyFirst x x)
     go false = refl
 
 pub top-comm : (x y : Key) → top x y ≡ top y x
-top-comm x y = go (order x y)
+top-comm x y = go (which x y)
   where
-    go : Order x y → top x y ≡ top y x
-    go (above h) = top-l x y h ∙ sym (top-r y x h)
-    go (equal e) = ap₂ top e (sym e)
-    go (below h) = top-r x y h ∙ sym (top-l y x h)
+    go : Which x y → top x y ≡ top y x
+    go (ahead h) = top-l x y h ∙ sym (top-r y x h)
+    go (same e) = ap₂ top e (sym e)
+    go (behind h) = top-r x y h ∙ sym (top-l y x h)
 
 pub top-assoc : (x y z : Key) → top (top x y) z ≡ top x (top y z)
-top-assoc x y z = go (order x y) (order y z)
+top-assoc x y z = go (which x y) (which y z)
   where
-    again : Order x z → top x z ≡ top x (top x z)
-    again (above h) = top-l x z h ∙ sym (ap (top x) (top-l x z h) ∙ top-self x)
-    again (equal e) = subst (λ (w : Key). top x w ≡ top x (top x w)) e (sym (ap (top x) (top-self x)))
-    again (below h) = top-r x z h ∙ sym (ap (top x) (top-r x z h) ∙ top-r x z h)
+    again : Which x z → top x z ≡ top x (top x z)
+    again (ahead h) = top-l x z h ∙ sym (ap (top x) (top-l x z h) ∙ top-self x)
+    again (same e) = subst (λ (w : Key). top x w ≡ top x (top x w)) e (sym (ap (top x) (top-self x)))
+    again (behind h) = top-r x z h ∙ sym (ap (top x) (top-r x z h) ∙ top-r x z h)
 
-    last : Order x y → top (top x y) y ≡ top x y
-    last (above h) = ap (λ (w : Key). top w y) (top-l x y h)
-    last (equal e) = subst (λ (w : Key). top (top x w) w ≡ top x w) e (ap (λ (w : Key). top w x) (top-self x))
-    last (below h) = ap (λ (w : Key). top w y) (top-r x y h) ∙ top-self y ∙ sym (top-r x y h)
+    last : Which x y → top (top x y) y ≡ top x y
+    last (ahead h) = ap (λ (w : Key). top w y) (top-l x y h)
+    last (same e) = subst (λ (w : Key). top (top x w) w ≡ top x w) e (ap (λ (w : Key). top w x) (top-self x))
+    last (behind h) = ap (λ (w : Key). top w y) (top-r x y h) ∙ top-self y ∙ sym (top-r x y h)
 
-    tied : Order x y → y ≡ z → top (top x y) z ≡ top x (top y z)
+    tied : Which x y → y ≡ z → top (top x y) z ≡ top x (top y z)
     tied h e = subst (λ (w : Key). top (top x y) w ≡ top x (top y w)) e (last h ∙ sym (ap (top x) (top-self y)))
 
-    go : Order x y → Order y z → top (top x y) z ≡ top x (top y z)
-    go (equal e) k =
-        subst (λ (w : Key). top (top x w) z ≡ top x (top w z)) e (ap (λ (w : Key). top w z) (top-self x) ∙ again (order x z))
-    go (above h) (above k) =
-        ap (λ (w : Key). top w z) (top-l x y h) ∙ top-l x z (first-trans x y z h k) ∙ sym (ap (top x) (top-l y z k) ∙ top-l x y h)
-    go (above h) (equal e) = tied (above h) e
-    go (below h) (equal e) = tied (below h) e
-    go (above h) (below k) = ap (λ (w : Key). top w z) (top-l x y h) ∙ sym (ap (top x) (top-r y z k))
-    go (below h) (above k) = ap (λ (w : Key). top w z) (top-r x y h) ∙ top-l y z k ∙ sym (ap (top x) (top-l y z k) ∙ top-r x y h)
-    go (below h) (below k) =
-        ap (λ (w : Key). top w z) (top-r x y h) ∙ top-r y z k ∙ sym (ap (top x) (top-r y z k) ∙ top-r x z (first-trans z y x k h))
+    go : Which x y → Which y z → top (top x y) z ≡ top x (top y z)
+    go (same e) k =
+        subst (λ (w : Key). top (top x w) z ≡ top x (top w z)) e (ap (λ (w : Key). top w z) (top-self x) ∙ again (which x z))
+    go (ahead h) (ahead k) =
+        ap (λ (w : Key). top w z) (top-l x y h) ∙ top-l x z (key-trans x y z h k) ∙ sym (ap (top x) (top-l y z k) ∙ top-l x y h)
+    go (ahead h) (same e) = tied (ahead h) e
+    go (behind h) (same e) = tied (behind h) e
+    go (ahead h) (behind k) = ap (λ (w : Key). top w z) (top-l x y h) ∙ sym (ap (top x) (top-r y z k))
+    go (behind h) (ahead k) = ap (λ (w : Key). top w z) (top-r x y h) ∙ top-l y z k ∙ sym (ap (top x) (top-l y z k) ∙ top-r x y h)
+    go (behind h) (behind k) =
+        ap (λ (w : Key). top w z) (top-r x y h) ∙ top-r y z k ∙ sym (ap (top x) (top-r y z k) ∙ top-r x z (key-trans z y x k h))
 
 -- ---- no key is before x
 
@@ -159,26 +103,29 @@ pub least-top-r : (x y : Key) → AtLeast (top x y) y
 least-top-r x y = top-assoc x y y ∙ ap (top x) (top-self y)
 
 pub least-of-first : (x y : Key) → T (keyFirst x y) → AtLeast x y
-least-of-first x y h = top-l x y (first→ x y h)
+least-of-first x y h = top-l x y h
 
 -- ---- keys added
 
 abbrev pub joinK : Key → Key → Key
 joinK x y = (x .0 +ℤ y .0, x .1 + y .1)
 
-first-join : (x y z : Key) → First y z → First (joinK x y) (joinK x z)
-first-join x y z (heavier h) =
-    heavier (subst₂ (λ (a b : ℤ). T (ltZ a b)) (+ℤ-comm (z .0) (x .0)) (+ℤ-comm (y .0) (x .0)) (ltZ-add (x .0) (z .0) (y .0) h))
-first-join x y z (level e l) = level (ap (λ (a : ℤ). x .0 +ℤ a) e) (omega arith)
+first-join : (x y z : Key) → T (keyFirst y z) → T (keyFirst (joinK x y) (joinK x z))
+first-join x y z h = →before (joinK x y) (joinK x z) (go (before→ y z h))
+  where
+    go : Before y z → Before (joinK x y) (joinK x z)
+    go (heavier l) =
+        heavier (subst₂ (λ (a b : ℤ). T (ltZ a b)) (+ℤ-comm (z .0) (x .0)) (+ℤ-comm (y .0) (x .0)) (ltZ-add (x .0) (z .0) (y .0) l))
+    go (level e l) = level (ap (λ (a : ℤ). x .0 +ℤ a) e) (omega arith)
 
 pub join-top : (x y z : Key) → joinK x (top y z) ≡ top (joinK x y) (joinK x z)
-join-top x y z = go (order y z)
+join-top x y z = go (which y z)
   where
-    go : Order y z → joinK x (top y z) ≡ top (joinK x y) (joinK x z)
-    go (above h) = ap (joinK x) (top-l y z h) ∙ sym (top-l (joinK x y) (joinK x z) (first-join x y z h))
-    go (equal e) =
+    go : Which y z → joinK x (top y z) ≡ top (joinK x y) (joinK x z)
+    go (ahead h) = ap (joinK x) (top-l y z h) ∙ sym (top-l (joinK x y) (joinK x z) (first-join x y z h))
+    go (same e) =
         subst (λ (w : Key). joinK x (top y w) ≡ top (joinK x y) (joinK x w)) e (ap (joinK x) (top-self y) ∙ sym (top-self (joinK x y)))
-    go (below h) = ap (joinK x) (top-r y z h) ∙ sym (top-r (joinK x y) (joinK x z) (first-join x z y h))
+    go (behind h) = ap (joinK x) (top-r y z h) ∙ sym (top-r (joinK x y) (joinK x z) (first-join x z y h))
 
 join-comm : (x y : Key) → joinK x y ≡ joinK y x
 join-comm x y = λ i. (+ℤ-comm (x .0) (y .0) i, (let q : x .1 + y .1 ≡ y .1 + x .1 = omega arith in q) i)

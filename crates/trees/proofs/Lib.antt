@@ -1,30 +1,39 @@
+-- In the order in which they build on each other.
 -- sets of clusters as tests
 pub mod Families
+-- what it says to be a tuple
+pub mod Tuples
+-- the row formula for any kind of result
+pub mod Kind
 -- a tree as facts about a family
 pub mod TreeFacts
 -- the trees of the children of a tuple, joined
 pub mod Cuts
--- what it says to be a tuple
-pub mod Tuples
 -- the trees of a row
 pub mod RowTrees
 -- rows that fall, and the rows of a table
 pub mod Rows
 -- a table of lists of trees
 pub mod TableTrees
--- the row formula for any kind of result
-pub mod Kind
 -- the definition's test of a tree, and the facts
 pub mod TreeTest
--- weights with sets as numbers, and their order
-pub mod Keys
 -- a set of clusters as one number, and its weight
 pub mod Marks
+-- the order of keys
+pub mod KeyOrder
+-- the tie rule as the order of marks
+pub mod TieRule
+-- the first heaviest of several sets
+pub mod FirstHeaviest
+-- counts with keys are a semiring
+pub mod Keys
 -- a row's count and the key of its first heaviest tree
 pub mod Best
--- the row worked out from the fields
-pub mod Worked
 -- counts stopped at a limit
 pub mod Capped
+-- the row worked out from the fields
+pub mod Worked
 -- the row length, among all rows and among the rows beneath
 pub mod RowLength
+-- the row worked out from tuples is the row defined by trees
+pub mod Built

@@ -3,7 +3,7 @@
 --     marks-one, marks-one-mem        the mark of one cluster is the power of two of its place
 --     marks-inj                       equal marks have equal members
 --     no-carry                        the low digits of two families without a common member add up without a carry
---     marks-keep                      the marks of a list that a test keeps
+--     marks-keep, marksOf-inj         the marks of a list that a test keeps; sublists with equal marks are equal
 --     weight-ext, weight-none, weight-join, weight-one, weight-keep     the same of weights
 -- Assumes nothing.
 use mathlib.Core.Path.{_≡_, refl, sym, ap, ap₂, _∙_, subst₂}
@@ -18,9 +18,10 @@ use lib.Dec.{T, eqb, eqb→eq, eqb-refl}
 use lib.IntN.{ℤ, pos, _+ℤ_, +ℤ-assoc, +ℤ-idr}
 use lib.ListN.{length}
 use lib.Pow.{pow-pos, pow-mono, pow-add}
-use Rattle.laws.specs.Lists.{keep, elem}
-use Rattle.laws.proofs.Falling.{Falling, elem-keep}
+use Rattle.laws.specs.Lists.{keep, elem, sublists, Once}
+use Rattle.laws.proofs.Falling.{Falling, elem-keep, sublist-is-elem}
 use Rattle.laws.proofs.Integers.{add-swap}
+use Rattle.laws.proofs.Keep.{keep-ext}
 use Rattle.laws.proofs.Tests.{T-true, T-false, eq→eqb}
 use Rattle.trees.specs.Rows.{Row, clustersOf}
 use Rattle.trees.specs.Heaviest.{weightIn, weightOf}
@@ -119,6 +120,12 @@ no-carry k (c ∷ cs) p q d = go (decLe k (length cs)) (no-carry k cs p q d)
 
 pub marks-keep : (cs L : List ℕ) (p : Fam) → ((c : ℕ) → T (p c) → Mem c L) → marksOf cs (keep p L) ≡ marksIn cs p
 marks-keep cs L p f = marks-ext cs (λ (c : ℕ). elem c (keep p L)) p (λ c _. elem-keep p L c (f c))
+
+pub marksOf-inj : (cs xs ys : List ℕ) → Once cs → Mem xs (sublists cs) → Mem ys (sublists cs) → marksOf cs xs ≡ marksOf cs ys → xs ≡ ys
+marksOf-inj cs xs ys o m k e =
+    sublist-is-elem cs xs o m
+    ∙ keep-ext (λ (c : ℕ). elem c xs) (λ (c : ℕ). elem c ys) cs (marks-inj cs (λ (c : ℕ). elem c xs) (λ (c : ℕ). elem c ys) e)
+    ∙ sym (sublist-is-elem cs ys o k)
 
 -- ---- weights
 

@@ -1,7 +1,7 @@
 -- Rows that fall: the largest cluster first, none twice, none empty, all within the width.
 --     RowFacts w rs          what holds of the rows of any accepted list of w taxa
 --     facts-tail             and of its smaller rows
---     table-row, row-table   the rows of a table, by any row formula, are the rows it was made of
+--     table-rows, table-row, row-table, table-clusters   the rows of a table, by any row formula, are the rows it was made of
 --     scored-mem, mem-scored the clusters of the scored rows
 --     scored-once            none of them twice
 --     givenOf                the question about trees that rows ask
@@ -44,6 +44,10 @@ module _ {A : Type 0} (F : Row → List (Entry A) → A) where
   pub row-table : (rs : List Row) (r : Row) → Mem r rs → (e : Entry A) × Mem e (tableOf F rs) × (e .row ≡ r)
   row-table (q ∷ rs) r (here p) = (record { row = q; val = F q (tableOf F rs) }, here refl, sym p)
   row-table (q ∷ rs) r (there m) = let x = row-table rs r m in (x .0, there (x .1), x .2)
+
+  pub table-rows : (rs : List Row) → map (λ (e : Entry A). e .row) (tableOf F rs) ≡ rs
+  table-rows [] = refl
+  table-rows (r ∷ rs) = ap (λ (qs : List Row). r ∷ qs) (table-rows rs)
 
   pub table-clusters : (rs : List Row) → map cl (tableOf F rs) ≡ clustersOf rs
   table-clusters [] = refl

@@ -2,17 +2,18 @@
 --     rowLength d rs r       the number of tuples of listed scored clusters; 0 for one taxon or unscored
 --     treeResult W rs n ts   the fields of a row of length n whose cluster has the trees ts
 --     builtResult W d rs r   the fields of the row r in the table of the rows rs
+--     builtTable W d rs      every row with its fields
 -- Assumes nothing.
 use mathlib.Core.Bool.{not, cond, _&&_}
 use mathlib.Core.Option.{Option, none, some}
-use mathlib.Core.List.{List}
+use mathlib.Core.List.{List, map}
 use Prim.Native.Nat.{ℕ}
 use lib.IntN.{pos}
 use lib.ListN.{length}
 use Rattle.laws.specs.Cluster.{single}
 use Rattle.laws.specs.Limits.{Width}
 use Rattle.laws.specs.Lists.{keep, sublists}
-use Rattle.trees.specs.Rows.{Row, isScored, clustersOf, scoredIn}
+use Rattle.trees.specs.Rows.{Row, isScored, clustersOf, scoredIn, Entry}
 use Rattle.trees.specs.Tree.{treesOn}
 use Rattle.trees.specs.Tuple.{isTuple}
 use Rattle.trees.specs.Heaviest.{weightOf, firstHeaviest}
@@ -32,3 +33,6 @@ treeResult W rs n ts = withBest rs n (countField (W .countMax) (length ts)) (mar
 
 abbrev pub builtResult : Width → ℕ → List Row → Row → Result
 builtResult W d rs r = treeResult W rs (rowLength d rs r) (treesOn (W .taxa) d (scoredIn rs) (r .cluster))
+
+abbrev pub builtTable : Width → ℕ → List Row → List (Entry Result)
+builtTable W d rs = map (λ (r : Row). record { row = r; val = builtResult W d rs r }) rs

@@ -1,0 +1,206 @@
+-- THE TABLE IS THE TREES: each row worked out by the paper's formulas, from the rows beneath it, is the row defined by trees.
+--     workedTable W d rs      every row worked out from the rows beneath, from nothing
+--     true-table              it is the table of true counts and keys, encoded
+--     no-trees                an unscored cluster has no tree
+--     fields-are-trees        count, mark, best and members are those of the trees of the definition
+--     worked-is-built         the theorem, for all rows at once
+-- Assumes nothing.
+use mathlib.Core.Path.{_≡_, refl, sym, ap, ap₂, _∙_, subst}
+use mathlib.Core.Logic.{_⊎_, inl, inr, _≢_}
+use mathlib.Core.Bool.{Bool, true, false, not, cond, _&&_}
+use mathlib.Core.Option.{Option, none, some}
+use mathlib.Core.List.{List, [], _∷_, _++_, map, append-assoc, Memᴰ·map, Memᴰ·of-map}
+use mathlib.Core.List.{List·Memᴰ as Mem, List·Memᴰ·head as here, List·Memᴰ·tail as there, List·Memᴰ·not-nil as mem-nil}
+use Prim.Native.Nat.{ℕ, _≤_}
+use native.Mathlib.Omega.{arith}
+use lib.Dec.{T}
+use lib.IntN.{pos}
+use lib.ListN.{length}
+use Rattle.laws.specs.Cluster.{single}
+use Rattle.laws.specs.Limits.{Width}
+use Rattle.laws.specs.Lists.{keep, sublists}
+use Rattle.laws.proofs.Falling.{falling-once, sublist-trans}
+use Rattle.laws.proofs.Tests.{true-T}
+use Rattle.laws.proofs.Once.{map-inj}
+use Rattle.laws.proofs.Sublists.{sublists-map-keep}
+use Rattle.trees.specs.Rows.{Row, isScored, clustersOf, scoredIn, Entry, cl, sc}
+use Rattle.trees.specs.Tree.{treesOn}
+use Rattle.trees.specs.Tuple.{isTuple}
+use Rattle.trees.specs.Heaviest.{firstHeaviest}
+use Rattle.trees.specs.Result.{Result, countField, markField}
+use Rattle.trees.specs.Built.{rowLength, withBest, treeResult, builtResult, builtTable}
+use Rattle.trees.specs.Rescored.{Key, keyFirst, counted, workedOut}
+use Rattle.trees.proofs.Families.{Fam}
+use Rattle.trees.proofs.Kind.{tableOf, value, valueIf, build, mapE}
+use Rattle.trees.proofs.Rows.{RowFacts, table-row, table-rows, mem-scored, givenOf}
+use Rattle.trees.proofs.TreeFacts.{Given}
+use Rattle.trees.proofs.TreeTest.{famOf, tree-of}
+use Rattle.trees.proofs.Marks.{marks-keep, weight-keep}
+use Rattle.trees.proofs.KeyOrder.{key-irrefl, key-trans}
+use Rattle.trees.proofs.FirstHeaviest.{setKey, SetOf, AllSets, first-key}
+use Rattle.trees.proofs.Keys.{top, AtLeast, top-comm, least-of-first, Sol, solKind}
+use Rattle.trees.proofs.Best.{keyIn, Answer, row-answer}
+use Rattle.trees.proofs.Capped.{Res, encodeSol, encode, Counted, second, count-small}
+use Rattle.trees.proofs.Worked.{markIn, lengthIf, trueResult, AllCounted, worked-encode, counted-value}
+use Rattle.trees.proofs.RowLength.{length-beneath}
+
+abbrev pub workedTable : Width → ℕ → List Row → List (Entry Result)
+workedTable W d rs = tableOf (workedOut W d (clustersOf rs)) rs
+
+-- ---- true counts and keys
+
+module _ (d : ℕ) (cs : List ℕ) where
+  abbrev pub trueTable : List Row → List (Entry Res)
+  trueTable rs = tableOf (trueResult d cs) rs
+
+  -- its second half is the table of counts with keys
+  second-table : (rs : List Row) → map second (trueTable rs) ≡ build (solKind (markIn cs)) d rs
+  second-table [] = refl
+  second-table (r ∷ rs) = ap (λ (t : List (Entry (Option Sol))). record { row = r; val = value (solKind (markIn cs)) d r t } ∷ t) (second-table rs)
+
+  second-counted : (t : List (Entry Res)) → AllCounted t → (e : Entry (Option Sol)) → Mem e (map second t) → Counted (e .val)
+  second-counted (x ∷ t) c e (here q) = subst (λ (z : Entry (Option Sol)). Counted (z .val)) (sym q) (c x (here refl))
+  second-counted (x ∷ t) c e (there m) = second-counted t (λ y k. c y (there k)) e m
+
+  pub all-counted : (rs : List Row) → AllCounted (trueTable rs)
+  all-counted [] e m = absurd (mem-nil m)
+  all-counted (r ∷ rs) e (there m) = all-counted rs e m
+  all-counted (r ∷ rs) e (here q) =
+      subst (λ (z : Entry Res). Counted (z .val .1)) (sym q)
+      (counted-value (markIn cs) d r (map second (trueTable rs)) (second-counted (trueTable rs) (all-counted rs)))
+
+  pub true-table : (W : Width) → 1 ≤ W .countMax → (rs : List Row) → tableOf (workedOut W d cs) rs ≡ map (mapE (encode (W .countMax))) (trueTable rs)
+  true-table W p [] = refl
+  true-table W p (r ∷ rs) =
+      ap (λ (t : List (Entry Result)). record { row = r; val = workedOut W d cs r t } ∷ t) (true-table W p rs)
+      ∙ ap (λ (v : Result). record { row = r; val = v } ∷ map (mapE (encode (W .countMax))) (trueTable rs))
+      (worked-encode W p d cs r (trueTable rs) (all-counted rs))
+
+-- ---- the fields are those of the trees
+
+module _ (w d : ℕ) (rs : List Row) (f : RowFacts w rs) where
+  abbrev G : Given
+  G = givenOf w d rs f
+
+  abbrev trees : ℕ → List (List ℕ)
+  trees C = treesOn w d (scoredIn rs) C
+
+  sets : (C : ℕ) → AllSets rs (trees C)
+  sets C xs m = sublist-trans (clustersOf rs) (scoredIn rs) xs (falling-once (clustersOf rs) (f .falls)) scored-set (tree-of G C xs m .0)
+    where
+      scored-set : Mem (scoredIn rs) (sublists (clustersOf rs))
+      scored-set = sublists-map-keep (λ (r : Row). r .cluster) isScored rs
+
+  nonzero : (c : ℕ) → Mem c (clustersOf rs) → c ≢ 0
+  nonzero c m e = let q = Memᴰ·of-map (λ (r : Row). r .cluster) rs m in f .fits (q .0) (q .1) .0 (q .2 ∙ e)
+
+  -- an unscored cluster has none
+  no-trees : (r : Row) → Mem r rs → isScored r ≡ false → trees (r .cluster) ≡ []
+  no-trees r m e = none-of (trees (r .cluster)) bad
+    where
+      none-of : (l : List (List ℕ)) → ((xs : List ℕ) → Mem xs l → ⊥) → l ≡ []
+      none-of [] g = refl
+      none-of (xs ∷ l) g = absurd (g xs (here refl))
+
+      bad : (xs : List ℕ) → Mem xs (trees (r .cluster)) → ⊥
+      bad xs k =
+          let tr = tree-of G (r .cluster) xs k .1 in
+          let q = mem-scored rs (r .cluster) (tr .listed (r .cluster) (tr .top)) in
+          let same : q .0 ≡ r = map-inj (λ (x : Row). x .cluster) rs (falling-once (clustersOf rs) (f .falls)) (q .0) r (q .1) m (q .3) in
+          subst T (ap isScored same ∙ e) (q .2)
+
+  not-before : (x y : Key) → AtLeast x y → T (keyFirst y x) → ⊥
+  not-before x y h t =
+      let e : x ≡ y = sym h ∙ top-comm x y ∙ least-of-first y x t in
+      key-irrefl x (subst (λ (z : Key). T (keyFirst z x)) (sym e) t)
+
+  module _ (limit n : ℕ) (C : ℕ) where
+    abbrev fieldsOf : List (List ℕ) → Result
+    fieldsOf ts = withBest rs n (countField limit (length ts)) (markField limit (length ts)) (firstHeaviest rs ts)
+
+    fields-none : ((xs : List ℕ) → Mem xs (trees C) → ⊥) → (ts : List (List ℕ)) → ts ≡ trees C → encodeSol limit n none ≡ fieldsOf ts
+    fields-none g [] e = λ i. record {
+      length = n;
+      count = sym (count-small limit 0 (omega arith) .0) i;
+      mark = sym (count-small limit 0 (omega arith) .1) i;
+      best = pos 0;
+      members = 0;
+    }
+    fields-none g (xs ∷ ts) e = absurd (g xs (subst (Mem xs) e (here refl)))
+
+    fields-are-trees : (v : Option Sol) → Answer w d rs f C v → encodeSol limit n v ≡ fieldsOf (trees C)
+    fields-are-trees none a = fields-none a (trees C) refl
+    fields-are-trees (some x) a = withBest-of
+      where
+        S : Fam
+        S = a .1 .0
+
+        xs : List ℕ
+        xs = keep S (scoredIn rs)
+
+        key : x .1 ≡ setKey rs xs
+        key = a .1 .3 ∙ (λ i. (sym (weight-keep rs (scoredIn rs) S (a .1 .2)) i, sym (marks-keep (clustersOf rs) (scoredIn rs) S (a .1 .2)) i))
+
+        first : firstHeaviest rs (trees C) ≡ some xs
+        first = first-key rs (f .falls) nonzero (trees C) (sets C) xs (a .1 .1) (λ ys m t.
+            not-before (x .1) (setKey rs ys) (a .2 ys m) (subst (λ (k : Key). T (keyFirst (setKey rs ys) k)) (sym key) t))
+
+        withBest-of : encodeSol limit n (some x) ≡ fieldsOf (trees C)
+        withBest-of =
+            (λ i. record {
+              length = n;
+              count = countField limit (a .0 i);
+              mark = markField limit (a .0 i);
+              best = key i .0;
+              members = key i .1;
+            })
+            ∙ ap (withBest rs n (countField limit (length (trees C))) (markField limit (length (trees C)))) (sym first)
+
+-- ---- all rows
+
+module _ (W : Width) (pos-limit : 1 ≤ W .countMax) (d : ℕ) (rs : List Row) (f : RowFacts (W .taxa) rs) where
+  abbrev cs : List ℕ
+  cs = clustersOf rs
+
+  -- the row length, in the lower part qs of the rows
+  length-right : (up qs : List Row) → up ++ qs ≡ rs → (e : Entry Res) → Mem e (trueTable d cs qs) → e .val .0 ≡ rowLength d rs (e .row)
+  length-right up [] s e m = absurd (mem-nil m)
+  length-right up (r ∷ qs) s e (there m) = length-right (up ++ (r ∷ [])) qs (append-assoc up (r ∷ []) qs ∙ s) e m
+  length-right up (r ∷ qs) s e (here q) =
+      ap (λ (x : Entry Res). x .val .0) q
+      ∙ ap (lengthIf (isScored r && not (single (r .cluster))))
+      (length-beneath (W .taxa) d up r qs (subst (RowFacts (W .taxa)) (sym s) f) (trueResult d cs)
+      ∙ ap (λ (l : List Row). length (keep (isTuple d (r .cluster)) (sublists (scoredIn l)))) s)
+      ∙ ap (λ (x : Entry Res). rowLength d rs (x .row)) (sym q)
+
+  unscored-none : (qs : List Row) (e : Entry Res) → Mem e (trueTable d cs qs) → sc e ≡ false → e .val .1 ≡ none
+  unscored-none (r ∷ qs) e (there m) h = unscored-none qs e m h
+  unscored-none (r ∷ qs) e (here q) h =
+      ap (λ (x : Entry Res). x .val .1) q
+      ∙ ap (λ (b : Bool). valueIf (solKind (markIn cs)) b (single (r .cluster)) d r (map second (trueTable d cs qs))) (sym (ap sc q) ∙ h)
+
+  answer-of : (e : Entry Res) → Mem e (trueTable d cs rs) → Answer (W .taxa) d rs f (cl e) (e .val .1)
+  answer-of e m = go (sc e) refl
+    where
+      go : (b : Bool) → sc e ≡ b → Answer (W .taxa) d rs f (cl e) (e .val .1)
+      go true h = row-answer (W .taxa) d rs f (second e) (subst (Mem (second e)) (second-table d cs rs) (Memᴰ·map second m)) (true-T h)
+      go false h =
+          subst (Answer (W .taxa) d rs f (cl e)) (sym (unscored-none rs e m h))
+          (λ xs k. mem-nil (subst (Mem xs) (no-trees (W .taxa) d rs f (e .row) (table-row (trueResult d cs) rs e m) h) k))
+
+  entry-right : (e : Entry Res) → Mem e (trueTable d cs rs) → encode (W .countMax) (e .val) ≡ builtResult W d rs (e .row)
+  entry-right e m =
+      ap (λ (n : ℕ). encodeSol (W .countMax) n (e .val .1)) (length-right [] rs refl e m)
+      ∙ fields-are-trees (W .taxa) d rs f (W .countMax) (rowLength d rs (e .row)) (cl e) (e .val .1) (answer-of e m)
+
+  each : (t : List (Entry Res)) → ((e : Entry Res) → Mem e t → encode (W .countMax) (e .val) ≡ builtResult W d rs (e .row))
+      → map (mapE (encode (W .countMax))) t ≡ map (λ (r : Row). record { row = r; val = builtResult W d rs r }) (map (λ (e : Entry Res). e .row) t)
+  each [] h = refl
+  each (e ∷ t) h =
+      ap₂ (λ (v : Result) (l : List (Entry Result)). record { row = e .row; val = v } ∷ l) (h e (here refl)) (each t (λ x m. h x (there m)))
+
+  pub worked-is-built : workedTable W d rs ≡ builtTable W d rs
+  worked-is-built =
+      true-table d cs W pos-limit rs
+      ∙ each (trueTable d cs rs) entry-right
+      ∙ ap (map (λ (r : Row). record { row = r; val = builtResult W d rs r })) (table-rows (trueResult d cs) rs)
