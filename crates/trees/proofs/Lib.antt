@@ -37,3 +37,5 @@ pub mod Worked
 pub mod RowLength
 -- the row worked out from tuples is the row defined by trees
 pub mod Built
+-- rescoring a built table is the build of the changed rows
+pub mod Rescore

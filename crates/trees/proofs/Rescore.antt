@@ -1,0 +1,187 @@
+-- Rescoring: a new weight and state in one row of a built table, and the rows that contain it worked out again, is the build of the changed
+-- rows. Proved for any row formula that looks only at the rows inside a row's cluster, and the paper's formula is one.
+--     under C e             the entry lies inside C
+--     Local F               the row formula F depends on the entries inside the row's cluster alone
+--     tuples-local, worked-local     the tuples, and the paper's formula, are local
+--     rescore-is-build      the theorem
+--     rescored-clusters, rescore-other     in any table clusters stay, and so does every row that doesn't contain the rescored cluster
+--     put-cluster, put-other         what a new score leaves alone
+-- Assumes nothing.
+use mathlib.Core.Path.{_≡_, refl, sym, ap, ap₂, _∙_, subst}
+use mathlib.Core.Logic.{_⊎_, inl, inr}
+use mathlib.Core.Bool.{Bool, true, false, not, cond}
+use mathlib.Core.List.{List, [], _∷_, map, Memᴰ·map}
+use mathlib.Core.List.{List·Memᴰ as Mem}
+use Prim.Native.Nat.{ℕ}
+use lib.Dec.{T, eqb, eqb→eq, not-T}
+use lib.IntN.{ℤ}
+use lib.ListN.{length}
+use Rattle.laws.specs.Cluster.{inside, single}
+use Rattle.laws.specs.Limits.{Width}
+use Rattle.laws.specs.Lists.{keepIf, keep}
+use Rattle.laws.proofs.Tests.{T-dec, T-true, T-false, true-T}
+use Rattle.laws.proofs.Keep.{keep-swap}
+use Rattle.laws.proofs.Sublists.{sublists-drop}
+use Rattle.laws.proofs.Cluster.{inside-refl, inside-trans}
+use Rattle.trees.specs.Rows.{Row, isScored, clustersOf, Entry, cl, sc}
+use Rattle.trees.specs.Tuple.{isTuple, tuples}
+use Rattle.trees.specs.Result.{Result, blank}
+use Rattle.trees.specs.Rescored.{keyOf, firstKey, isLive, joined, alone, workedOut, putScore, againIf, again, rescored}
+use Rattle.trees.proofs.Kind.{tableOf}
+use Rattle.trees.proofs.Tuples.{part-inside}
+
+-- ---- only what lies inside counts
+
+module _ {A : Type 0} where
+  abbrev pub under : ℕ → Entry A → Bool
+  under C e = inside (cl e) C
+
+  abbrev pub Local : (Row → List (Entry A) → A) → Type 0
+  Local F = (r : Row) (t t′ : List (Entry A)) → keep (under (r .cluster)) t ≡ keep (under (r .cluster)) t′ → F r t ≡ F r t′
+
+  pub tuples-local : (d C : ℕ) (es : List (Entry A)) → tuples d C es ≡ tuples d C (keep (under C) es)
+  tuples-local d C es =
+      sublists-drop (under C) (λ (τ : List (Entry A)). isTuple d C (map cl τ)) es (λ τ h e m. part-inside d C (map cl τ) h (cl e) (Memᴰ·map cl m))
+
+  scored-local : (d C : ℕ) (t t′ : List (Entry A)) → keep (under C) t ≡ keep (under C) t′ → tuples d C (keep sc t) ≡ tuples d C (keep sc t′)
+  scored-local d C t t′ e =
+      tuples-local d C (keep sc t)
+      ∙ ap (tuples d C) (keep-swap (under C) sc t ∙ ap (keep sc) e ∙ sym (keep-swap (under C) sc t′))
+      ∙ sym (tuples-local d C (keep sc t′))
+
+pub worked-local : (W : Width) (d : ℕ) (cs : List ℕ) → Local (workedOut W d cs)
+worked-local W d cs r t t′ e =
+    ap (λ (τs : List (List (Entry Result))). cond (isScored r) (cond (single (r .cluster)) (alone cs r)
+    (joined W cs r (length τs) τs (firstKey (map keyOf (keep isLive τs))))) blank)
+    (scored-local d (r .cluster) t t′ e)
+
+-- ---- a new score
+
+module _ (c : ℕ) (z : ℤ) (s : ℕ) where
+  pub put-cluster : (r : Row) → putScore c z s r .cluster ≡ r .cluster
+  put-cluster r = go (eqb (r .cluster) c)
+    where
+      go : (b : Bool) → cond b (record { cluster = r .cluster; weight = z; state = s }) r .cluster ≡ r .cluster
+      go true = refl
+      go false = refl
+
+  pub put-other : (r : Row) → (T (inside c (r .cluster)) → ⊥) → putScore c z s r ≡ r
+  put-other r n = ap (λ (b : Bool). cond b (record { cluster = r .cluster; weight = z; state = s }) r) (T-false (eqb (r .cluster) c) other)
+    where
+      other : T (eqb (r .cluster) c) → ⊥
+      other t = n (subst (λ (x : ℕ). T (inside c x)) (sym (eqb→eq (r .cluster) c t)) (inside-refl c))
+
+  pub put-clusters : (rs : List Row) → clustersOf (map (putScore c z s) rs) ≡ clustersOf rs
+  put-clusters [] = refl
+  put-clusters (r ∷ rs) = ap₂ (λ (x : ℕ) (cs : List ℕ). x ∷ cs) (put-cluster r) (put-clusters rs)
+
+  -- ---- any local row formula
+  module _ {A : Type 0} (F : Row → List (Entry A) → A) (local : Local F) where
+    abbrev put : Row → Row
+    put = putScore c z s
+
+    abbrev putE : Entry A → Entry A
+    putE e = record { row = put (e .row); val = e .val }
+
+    -- what doesn't contain c stays, and so does all that lies inside it
+    same-below : (rs : List Row) (X : ℕ) → (T (inside c X) → ⊥) → keep (under X) (tableOf F rs) ≡ keep (under X) (tableOf F (map put rs))
+    same-below [] X n = refl
+    same-below (r ∷ rs) X n = go (T-dec (inside (r .cluster) X)) (same-below rs X n) (λ n′. same-below rs (r .cluster) n′)
+      where
+        old : Entry A
+        old = record { row = r; val = F r (tableOf F rs) }
+
+        new : Entry A
+        new = record { row = put r; val = F (put r) (tableOf F (map put rs)) }
+
+        under-new : under X new ≡ inside (r .cluster) X
+        under-new = ap (λ (x : ℕ). inside x X) (put-cluster r)
+
+        same-head : ((T (inside c (r .cluster)) → ⊥) → keep (under (r .cluster)) (tableOf F rs) ≡ keep (under (r .cluster)) (tableOf F (map put rs)))
+            → T (inside (r .cluster) X) → old ≡ new
+        same-head ih i =
+            let out : T (inside c (r .cluster)) → ⊥ = λ h. n (inside-trans c (r .cluster) X h i) in
+            ap (λ (x : A). record { row = r; val = x }) (local r (tableOf F rs) (tableOf F (map put rs)) (ih out))
+            ∙ ap (λ (q : Row). record { row = q; val = F q (tableOf F (map put rs)) }) (sym (put-other r out))
+
+        go : T (inside (r .cluster) X) ⊎ (T (inside (r .cluster) X) → ⊥) → keep (under X) (tableOf F rs) ≡ keep (under X) (tableOf F (map put rs))
+            → ((T (inside c (r .cluster)) → ⊥) → keep (under (r .cluster)) (tableOf F rs) ≡ keep (under (r .cluster)) (tableOf F (map put rs)))
+            → keepIf (inside (r .cluster) X) old (keep (under X) (tableOf F rs)) ≡ keepIf (under X new) new (keep (under X) (tableOf F (map put rs)))
+        go (inr f) ih ih′ =
+            ap₂ (λ (b : Bool) (l : List (Entry A)). keepIf b old l) (T-false (inside (r .cluster) X) f) ih
+            ∙ ap (λ (b : Bool). keepIf b new (keep (under X) (tableOf F (map put rs)))) (sym (under-new ∙ T-false (inside (r .cluster) X) f))
+        go (inl i) ih ih′ =
+            ap₂ (λ (x : Entry A) (l : List (Entry A)). keepIf (inside (r .cluster) X) x l) (same-head ih′ i) ih
+            ∙ ap (λ (b : Bool). keepIf b new (keep (under X) (tableOf F (map put rs)))) (sym under-new)
+
+    pub again-is-table : (rs : List Row) → again F c (map putE (tableOf F rs)) ≡ tableOf F (map put rs)
+    again-is-table [] = refl
+    again-is-table (r ∷ rs) = go (T-dec (inside c (r .cluster))) (again-is-table rs)
+      where
+        old : Entry A
+        old = record { row = put r; val = F r (tableOf F rs) }
+
+        test : inside c (put r .cluster) ≡ inside c (r .cluster)
+        test = ap (inside c) (put-cluster r)
+
+        go : T (inside c (r .cluster)) ⊎ (T (inside c (r .cluster)) → ⊥) → again F c (map putE (tableOf F rs)) ≡ tableOf F (map put rs)
+            → againIf F (inside c (put r .cluster)) old (again F c (map putE (tableOf F rs))) ≡ tableOf F (put r ∷ map put rs)
+        go (inl i) ih = ap₂ (λ (b : Bool) (l : List (Entry A)). againIf F b old l) (test ∙ T-true (inside c (r .cluster)) i) ih
+        go (inr n) ih =
+            ap₂ (λ (b : Bool) (l : List (Entry A)). againIf F b old l) (test ∙ T-false (inside c (r .cluster)) n) ih
+            ∙ ap (λ (x : A). record { row = put r; val = x } ∷ tableOf F (map put rs))
+            (local r (tableOf F rs) (tableOf F (map put rs)) (same-below rs (r .cluster) n)
+            ∙ ap (λ (q : Row). F q (tableOf F (map put rs))) (sym (put-other r n)))
+
+-- ---- any table: what a rescoring leaves alone
+
+module _ {A : Type 0} (F : Row → List (Entry A) → A) (c : ℕ) where
+  again-clusters : (t : List (Entry A)) → map cl (again F c t) ≡ map cl t
+  again-clusters [] = refl
+  again-clusters (e ∷ t) = go (inside c (cl e)) ∙ ap (λ (cs : List ℕ). cl e ∷ cs) (again-clusters t)
+    where
+      go : (b : Bool) → map cl (againIf F b e (again F c t)) ≡ cl e ∷ map cl (again F c t)
+      go true = refl
+      go false = refl
+
+  -- the rows that don't contain c, in their order
+  abbrev pub others : List (Entry A) → List (Entry A)
+  others t = keep (λ (e : Entry A). not (inside c (cl e))) t
+
+  again-other : (t : List (Entry A)) → others (again F c t) ≡ others t
+  again-other [] = refl
+  again-other (e ∷ t) = go (inside c (cl e)) refl (again-other t)
+    where
+      go : (b : Bool) → inside c (cl e) ≡ b → others (again F c t) ≡ others t → others (againIf F b e (again F c t)) ≡ keepIf (not b) e (others t)
+      go true q ih = ap (λ (b : Bool). keepIf (not b) (record { row = e .row; val = F (e .row) (again F c t) }) (others (again F c t))) q ∙ ih
+      go false q ih = ap₂ (λ (b : Bool) (l : List (Entry A)). keepIf (not b) e l) q ih
+
+module _ (W : Width) (d : ℕ) (cs : List ℕ) (c : ℕ) (z : ℤ) (s : ℕ) where
+  abbrev withScore : Entry Result → Entry Result
+  withScore e = record { row = putScore c z s (e .row); val = e .val }
+
+  put-list-clusters : (t : List (Entry Result)) → map cl (map withScore t) ≡ map cl t
+  put-list-clusters [] = refl
+  put-list-clusters (e ∷ t) = ap₂ (λ (x : ℕ) (l : List ℕ). x ∷ l) (put-cluster c z s (e .row)) (put-list-clusters t)
+
+  put-list-other : (t : List (Entry Result)) → others (workedOut W d cs) c (map withScore t) ≡ others (workedOut W d cs) c t
+  put-list-other [] = refl
+  put-list-other (e ∷ t) =
+      ap (λ (b : Bool). keepIf (not b) (withScore e) (others (workedOut W d cs) c (map withScore t))) (ap (inside c) (put-cluster c z s (e .row)))
+      ∙ go (T-dec (inside c (cl e))) (put-list-other t)
+    where
+      go : T (inside c (cl e)) ⊎ (T (inside c (cl e)) → ⊥) → others (workedOut W d cs) c (map withScore t) ≡ others (workedOut W d cs) c t
+          → keepIf (not (inside c (cl e))) (withScore e) (others (workedOut W d cs) c (map withScore t)) ≡ keepIf (not (inside c (cl e))) e (others (workedOut W d cs) c t)
+      go (inl i) ih = rw (T-true (inside c (cl e)) i) ih
+      go (inr n) ih =
+          ap₂ (λ (x : Entry Result) (l : List (Entry Result)). keepIf (not (inside c (cl e))) x l)
+          (ap (λ (q : Row). record { row = q; val = e .val }) (put-other c z s (e .row) n)) ih
+
+  pub rescored-clusters : (t : List (Entry Result)) → map cl (rescored W d cs c z s t) ≡ map cl t
+  rescored-clusters t = again-clusters (workedOut W d cs) c (map withScore t) ∙ put-list-clusters t
+
+  pub rescore-other : (t : List (Entry Result)) → others (workedOut W d cs) c (rescored W d cs c z s t) ≡ others (workedOut W d cs) c t
+  rescore-other t = again-other (workedOut W d cs) c (map withScore t) ∙ put-list-other t
+
+  pub rescore-is-table : (rs : List Row) → rescored W d cs c z s (tableOf (workedOut W d cs) rs) ≡ tableOf (workedOut W d cs) (map (putScore c z s) rs)
+  rescore-is-table rs = again-is-table c z s (workedOut W d cs) (worked-local W d cs) rs
