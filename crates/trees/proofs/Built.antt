@@ -85,13 +85,13 @@ module _ (w d : ℕ) (rs : List Row) (f : RowFacts w rs) where
   abbrev trees : ℕ → List (List ℕ)
   trees C = treesOn w d (scoredIn rs) C
 
-  sets : (C : ℕ) → AllSets rs (trees C)
+  pub sets : (C : ℕ) → AllSets rs (trees C)
   sets C xs m = sublist-trans (clustersOf rs) (scoredIn rs) xs (falling-once (clustersOf rs) (f .falls)) scored-set (tree-of G C xs m .0)
     where
       scored-set : Mem (scoredIn rs) (sublists (clustersOf rs))
       scored-set = sublists-map-keep (λ (r : Row). r .cluster) isScored rs
 
-  nonzero : (c : ℕ) → Mem c (clustersOf rs) → c ≢ 0
+  pub nonzero : (c : ℕ) → Mem c (clustersOf rs) → c ≢ 0
   nonzero c m e = let q = Memᴰ·of-map (λ (r : Row). r .cluster) rs m in f .fits (q .0) (q .1) .0 (q .2 ∙ e)
 
   -- an unscored cluster has none

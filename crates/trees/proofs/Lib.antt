@@ -39,3 +39,5 @@ pub mod RowLength
 pub mod Built
 -- rescoring a built table is the build of the changed rows
 pub mod Rescore
+-- the theorems that answer the demands
+pub mod Theorems
