@@ -16,3 +16,5 @@ pub mod Sublists
 pub mod Integers
 -- lists of numbers that fall strictly, and their sublists
 pub mod Falling
+-- how many sublists have a given number of elements
+pub mod Choose

@@ -18,3 +18,5 @@ pub mod KeyOrder
 pub mod TieRule
 -- the first heaviest of several sets
 pub mod FirstHeaviest
+-- how many tuples a row can have
+pub mod TupleBound
