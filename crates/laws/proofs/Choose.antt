@@ -10,19 +10,19 @@
 -- Assumes nothing.
 use mathlib.Core.Path.{_≡_, refl, sym, ap, ap₂, _∙_, subst}
 use mathlib.Core.Logic.{_⊎_, inl, inr, _≢_}
-use mathlib.Core.Bool.{Bool, true, false, not, _&&_}
-use mathlib.Core.List.{List, [], _∷_}
-use mathlib.Core.List.{List·Memᴰ as Mem, List·Memᴰ·head as here, List·Memᴰ·tail as there}
-use Prim.Native.Nat.{ℕ, zero, suc, _+_, _-_, _≤_, _<_}
+use mathlib.Core.Bool.{Bool, not, _&&_}
+use mathlib.Core.List.{List, [], _∷_, List·Memᴰ as Mem}
+use Prim.Native.Nat.{ℕ, zero, suc, _+_, _-_, _≤_}
 use native.Mathlib.Decide.{ℕ-discrete}
 use native.Mathlib.Nat.{le-refl, le-trans}
 use native.Mathlib.Omega.{arith}
 use lib.Arith.{le-zero}
 use lib.Dec.{T, eqb, eqb·zero-suc, eqb·suc-zero, eqb·suc-suc, T-not, not-T}
 use lib.ListN.{length, length-append, length-map}
-use Rattle.laws.specs.Lists.{keepIf, keep, every, sublists}
-use Rattle.laws.proofs.Tests.{T-and, and-T, T-dec, T-false, bool-ext, eq→eqb}
-use Rattle.laws.proofs.Keep.{keep-append, keep-map, keep-none, keep-ext, every→, →every, length-keep-le}
+use Rattle.laws.specs.Lists.{keep, every, sublists}
+use Rattle.laws.proofs.Tests.{T-and, and-T, T-dec, bool-ext, eq→eqb}
+use Rattle.laws.proofs.Keep.{keep-append, keep-map, keep-none, keep-ext, every→, →every}
+use Rattle.laws.proofs.KeepCount.{length-keep-or, length-keep-lt}
 use Rattle.laws.proofs.Sublists.{sublists-drop}
 
 unfoldable pub choose : ℕ → ℕ → ℕ
@@ -106,35 +106,6 @@ module _ {A : Type 0} where
       let longer : List A → Bool = λ s. eqb (suc (length s)) (suc k) in
       let e = keep-ext longer (λ (s : List A). eqb (length s) k) (sublists xs) (λ s _. eqb·suc-suc (length s) k) in
       omega (arith, count-cons (λ (s : List A). eqb (length s) (suc k)) x xs, ap length e, sublists-count xs (suc k), sublists-count xs k)
-
-  -- q or r passes what p passes
-  length-keep-or : (p q r : A → Bool) (l : List A) → ((x : A) → T (p x) → T (q x) ⊎ T (r x))
-      → length (keep p l) ≤ length (keep q l) + length (keep r l)
-  length-keep-or p q r [] f = omega arith
-  length-keep-or p q r (x ∷ xs) f = go (p x) (q x) (r x) (f x) (length-keep-or p q r xs f)
-    where
-      none : T false ⊎ T false → ⊥
-      none (inl h) = h
-      none (inr h) = h
-
-      go : (a b c : Bool) → (T a → T b ⊎ T c) → length (keep p xs) ≤ length (keep q xs) + length (keep r xs)
-          → length (keepIf a x (keep p xs)) ≤ length (keepIf b x (keep q xs)) + length (keepIf c x (keep r xs))
-      go true true true g h = omega arith
-      go true true false g h = omega arith
-      go true false true g h = omega arith
-      go true false false g h = absurd (none (g tt))
-      go false true true g h = omega arith
-      go false true false g h = omega arith
-      go false false true g h = omega arith
-      go false false false g h = h
-
-  length-keep-lt : (q : A → Bool) (l : List A) (x : A) → Mem x l → (T (q x) → ⊥) → length (keep q l) < length l
-  length-keep-lt q (y ∷ ys) x (here e) n = rw (T-false (q y) (λ h. n (rw e h))) (omega (arith, length-keep-le q ys))
-  length-keep-lt q (y ∷ ys) x (there m) n = go (q y) (length-keep-lt q ys x m n)
-    where
-      go : (b : Bool) → length (keep q ys) < length ys → length (keepIf b y (keep q ys)) < suc (length ys)
-      go true h = omega arith
-      go false h = omega arith
 
 -- ---- at most so many pass a test
 
