@@ -20,3 +20,5 @@ pub mod TieRule
 pub mod FirstHeaviest
 -- how many tuples a row can have
 pub mod TupleBound
+-- how many members a tree has, and how much it can weigh
+pub mod TreeSize
