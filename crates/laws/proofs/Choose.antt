@@ -9,7 +9,7 @@
 --     fewFour, few-four      few n 4, in steps that compute
 -- Assumes nothing.
 use mathlib.Core.Path.{_≡_, refl, sym, ap, ap₂, _∙_, subst}
-use mathlib.Core.Logic.{_⊎_, inl, inr, _≢_}
+use mathlib.Core.Logic.{_≢_}
 use mathlib.Core.Bool.{Bool, not, _&&_}
 use mathlib.Core.List.{List, [], _∷_, List·Memᴰ as Mem}
 use Prim.Native.Nat.{ℕ, zero, suc, _+_, _-_, _≤_}
@@ -17,12 +17,12 @@ use native.Mathlib.Decide.{ℕ-discrete}
 use native.Mathlib.Nat.{le-refl, le-trans}
 use native.Mathlib.Omega.{arith}
 use lib.Arith.{le-zero}
-use lib.Dec.{T, eqb, eqb·zero-suc, eqb·suc-zero, eqb·suc-suc, T-not, not-T}
+use lib.Dec.{T, eqb, eqb·zero-suc, eqb·suc-zero, eqb·suc-suc, T-not}
 use lib.ListN.{length, length-append, length-map}
 use Rattle.laws.specs.Lists.{keep, every, sublists}
-use Rattle.laws.proofs.Tests.{T-and, and-T, T-dec, bool-ext, eq→eqb}
+use Rattle.laws.proofs.Tests.{T-and, and-T, bool-ext, eq→eqb}
 use Rattle.laws.proofs.Keep.{keep-append, keep-map, keep-none, keep-ext, every→, →every}
-use Rattle.laws.proofs.KeepCount.{length-keep-or, length-keep-lt}
+use Rattle.laws.proofs.KeepCount.{length-keep-split, length-keep-and-le, length-keep-lt}
 use Rattle.laws.proofs.Sublists.{sublists-drop}
 
 unfoldable pub choose : ℕ → ℕ → ℕ
@@ -117,20 +117,14 @@ module _ {A : Type 0} where
   few-le p zero f l = rw (keep-none p (sublists l) (λ s h. omega (arith, f s h))) (le-refl 0)
   few-le p (suc zero) f l = rw (keep-none p (sublists l) (λ s h. omega (arith, f s h))) (le-refl 0)
   few-le p (suc (suc m)) f l =
-      omega (arith, length-keep-or p full rest (sublists l) split, sublists-count l (suc (suc m)), few-le rest (suc m) less l)
+      let h = length-keep-and-le p full (sublists l) in
+      omega (arith, length-keep-split p full (sublists l), sublists-count l (suc (suc m)), few-le rest (suc m) less l)
     where
       full : List A → Bool
       full s = eqb (length s) (suc (suc m))
 
       rest : List A → Bool
       rest s = p s && not (full s)
-
-      split : (s : List A) → T (p s) → T (full s) ⊎ T (rest s)
-      split s h = go (T-dec (full s))
-        where
-          go : T (full s) ⊎ (T (full s) → ⊥) → T (full s) ⊎ T (rest s)
-          go (inl k) = inl k
-          go (inr n) = inr (and-T (p s) (not (full s)) h (not-T (full s) n))
 
       less : Sized rest (suc m)
       less s h =

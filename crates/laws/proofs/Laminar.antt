@@ -13,14 +13,14 @@ use Prim.Native.Nat.{ℕ, zero, suc, _+_, _-_, _*_, _≤_, _<_}
 use native.Mathlib.Decide.{decLe}
 use native.Mathlib.Nat.{le-antisymm, le-refl, mul-add, mul-le-mul-left}
 use native.Mathlib.Omega.{arith}
-use lib.Dec.{T, eqb, eqb→eq, T-not, not-T}
+use lib.Dec.{T, eqb, eqb→eq, T-not}
 use lib.ListN.{length}
 use Rattle.laws.specs.Cluster.{inside, apart, nested, size}
 use Rattle.laws.specs.Lists.{keep, Once}
-use Rattle.laws.proofs.Tests.{T-and, and-T, T-dec, eq→eqb}
+use Rattle.laws.proofs.Tests.{T-and, T-dec, eq→eqb}
 use Rattle.laws.proofs.Digits.{Has, or-has}
 use Rattle.laws.proofs.Keep.{mem-of-keep, keep-none}
-use Rattle.laws.proofs.KeepCount.{length-keep-or}
+use Rattle.laws.proofs.KeepCount.{length-keep-split}
 use Rattle.laws.proofs.Once.{once-keep, once-length-le}
 use Rattle.laws.proofs.Cluster.{inside→, →inside, apart→, le-of-inside, inside-refl, union-rest}
 use Rattle.laws.proofs.Cluster.{Nest, below, above, away, nested→}
@@ -32,17 +32,11 @@ pub record Measure (μ : (ℕ → Bool) → ℕ) (M : ℕ) : Type 0 where
   pub one : (S : ℕ → Bool) (c : ℕ) → ((x : ℕ) → T (S x) → x ≡ c) → μ S ≤ M
 
 pub count-measure : (L : List ℕ) → Once L → Measure (λ S. length (keep S L)) 1
-count-measure L o = record { split = two; none = λ S f. ap length (keep-none S L f); one = single }
-  where
-    two : (S p : ℕ → Bool) → length (keep S L) ≤ length (keep (λ (c : ℕ). S c && p c) L) + length (keep (λ (c : ℕ). S c && not (p c)) L)
-    two S p = length-keep-or S (λ (c : ℕ). S c && p c) (λ (c : ℕ). S c && not (p c)) L (λ c s. side c s (T-dec (p c)))
-      where
-        side : (c : ℕ) → T (S c) → T (p c) ⊎ (T (p c) → ⊥) → T (S c && p c) ⊎ T (S c && not (p c))
-        side c s (inl h) = inl (and-T (S c) (p c) s h)
-        side c s (inr n) = inr (and-T (S c) (not (p c)) s (not-T (p c) n))
-
-    single : (S : ℕ → Bool) (c : ℕ) → ((x : ℕ) → T (S x) → x ≡ c) → length (keep S L) ≤ 1
-    single S c f = once-length-le (keep S L) (c ∷ []) (once-keep S L o) (λ x m. here (f x (mem-of-keep S L m .1)))
+count-measure L o = record {
+  split = λ S p. omega (arith, length-keep-split S p L);
+  none = λ S f. ap length (keep-none S L f);
+  one = λ S c f. once-length-le (keep S L) (c ∷ []) (once-keep S L o) (λ x m. here (f x (mem-of-keep S L m .1)));
+}
 
 -- ---- the largest number of a list that passes a test
 
