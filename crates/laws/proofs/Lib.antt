@@ -16,3 +16,9 @@ pub mod Sublists
 pub mod Integers
 -- lists of numbers that fall strictly, and their sublists
 pub mod Falling
+-- how many elements a filter keeps
+pub mod KeepCount
+-- how many sublists have a given number of elements
+pub mod Choose
+-- families of clusters that nest: how large they can be
+pub mod Laminar

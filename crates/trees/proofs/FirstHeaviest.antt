@@ -3,6 +3,7 @@
 --     setKey-inj          sublists with equal keys are equal
 --     comes-is-key        coming first is the order of keys
 --     SetOf, AllSets      a list is one of the sublists of the rows' clusters, and so is each of several
+--     set-of-scored       so is every sublist of the scored clusters
 --     Leads rs xs ys      xs is ys, or comes before it
 --     first-none, first-some     nothing is found among no sets; among others one is
 --     first-mem           what is found is one of the sets
@@ -12,17 +13,18 @@
 -- Assumes nothing.
 use mathlib.Core.Path.{_≡_, refl, sym, ap, _∙_, subst}
 use mathlib.Core.Logic.{_⊎_, inl, inr, _≢_}
-use mathlib.Core.Bool.{Bool, true, false, not, cond, _&&_, _||_}
+use mathlib.Core.Bool.{Bool, not, cond, _&&_, _||_}
 use mathlib.Core.Option.{none, some, Option·none-ne-some, Option·some-injective}
-use mathlib.Core.List.{List, [], _∷_}
+use mathlib.Core.List.{List, [], _∷_, map, Memᴰ·map}
 use mathlib.Core.List.{List·Memᴰ as Mem, List·Memᴰ·head as here, List·Memᴰ·tail as there, List·Memᴰ·not-nil as mem-nil}
 use Prim.Native.Nat.{ℕ}
 use lib.Dec.{T}
 use lib.Signed.{ltZ}
 use Rattle.laws.specs.Lists.{sublists}
-use Rattle.laws.proofs.Falling.{Falling, falling-once}
+use Rattle.laws.proofs.Falling.{Falling, falling-once, sublist-trans}
+use Rattle.laws.proofs.Sublists.{sublists-keep, sublists-map}
 use Rattle.laws.proofs.Tests.{T-dec, T-true, T-false}
-use Rattle.trees.specs.Rows.{Row, clustersOf}
+use Rattle.trees.specs.Rows.{Row, isScored, clustersOf, scoredIn}
 use Rattle.trees.specs.Heaviest.{weightOf, comesFirst, firstOf, firstHeaviest}
 use Rattle.trees.specs.Rescored.{Key, keyFirst}
 use Rattle.trees.specs.Result.{marksOf}
@@ -42,6 +44,14 @@ module _ (rs : List Row) where
 
   abbrev pub AllSets : List (List ℕ) → Type 0
   AllSets xss = (xs : List ℕ) → Mem xs xss → SetOf xs
+
+  pub set-of-scored : Falling (clustersOf rs) → (xs : List ℕ) → Mem xs (sublists (scoredIn rs)) → SetOf xs
+  set-of-scored f xs m = sublist-trans (clustersOf rs) (scoredIn rs) xs (falling-once (clustersOf rs) f) scored m
+    where
+      scored : Mem (scoredIn rs) (sublists (clustersOf rs))
+      scored =
+          rw (sublists-map (λ (r : Row). r .cluster) rs)
+          (Memᴰ·map (map (λ (r : Row). r .cluster)) (sublists-keep isScored rs))
 
   pub first-none : firstHeaviest rs [] ≡ none
   first-none = refl
@@ -81,12 +91,44 @@ module _ (rs : List Row) (falling : Falling (clustersOf rs)) (nonzero : (c : ℕ
   leads-antisym xs ys m k (inr h) (inr i) =
       absurd (key-irrefl (setKey rs xs) (key-trans (setKey rs xs) (setKey rs ys) (setKey rs xs) (comes→ xs ys m k h) (comes→ ys xs k m i)))
 
-  -- what is found among one set and some others
+  -- a set that is found, is one of them and leads each
   record First (xss : List (List ℕ)) : Type 0 where
     set : List ℕ
     found : firstHeaviest rs xss ≡ some set
     mem : Mem set xss
     before : (ys : List ℕ) → Mem ys xss → Leads rs set ys
+
+  -- one set more, which doesn't come first, or does
+  first-old : (xs : List ℕ) (xss : List (List ℕ)) (q : First xss) → T (comesFirst rs (q .set) xs) → First (xs ∷ xss)
+  first-old xs xss q h = record {
+    set = q .set;
+    found = ap (firstOf rs xs) (q .found) ∙ ap (λ (b : Bool). some (cond b (q .set) xs)) (T-true (comesFirst rs (q .set) xs) h);
+    mem = there (q .mem);
+    before = before;
+  }
+    where
+      before : (ys : List ℕ) → Mem ys (xs ∷ xss) → Leads rs (q .set) ys
+      before ys (here e) = inr (subst (λ (a : List ℕ). T (comesFirst rs (q .set) a)) (sym e) h)
+      before ys (there m) = q .before ys m
+
+  first-new : (xs : List ℕ) (xss : List (List ℕ)) → AllSets rs (xs ∷ xss) → (q : First xss) → (T (comesFirst rs (q .set) xs) → ⊥)
+      → First (xs ∷ xss)
+  first-new xs xss s q n = record {
+    set = xs;
+    found = ap (firstOf rs xs) (q .found) ∙ ap (λ (b : Bool). some (cond b (q .set) xs)) (T-false (comesFirst rs (q .set) xs) n);
+    mem = here refl;
+    before = before;
+  }
+    where
+      old : SetOf rs (q .set)
+      old = s (q .set) (there (q .mem))
+
+      leads : Leads rs xs (q .set)
+      leads = leads-of-not xs (q .set) (s xs (here refl)) old (λ h. n (→comes (q .set) xs old (s xs (here refl)) h))
+
+      before : (ys : List ℕ) → Mem ys (xs ∷ xss) → Leads rs xs ys
+      before ys (here e) = inl (sym e)
+      before ys (there m) = leads-trans xs (q .set) ys (s xs (here refl)) old (s ys (there m)) leads (q .before ys m)
 
   first : (xs : List ℕ) (xss : List (List ℕ)) → AllSets rs (xs ∷ xss) → First (xs ∷ xss)
   first xs [] s = record { set = xs; found = refl; mem = here refl; before = alone }
@@ -99,25 +141,9 @@ module _ (rs : List Row) (falling : Falling (clustersOf rs)) (nonzero : (c : ℕ
       go : First (zs ∷ xss) → First (xs ∷ zs ∷ xss)
       go q = pick (T-dec (comesFirst rs (q .set) xs))
         where
-          step : (b : Bool) → comesFirst rs (q .set) xs ≡ b → firstHeaviest rs (xs ∷ zs ∷ xss) ≡ some (cond b (q .set) xs)
-          step b e = ap (firstOf rs xs) (q .found) ∙ ap (λ (c : Bool). some (cond c (q .set) xs)) e
-
-          old : T (comesFirst rs (q .set) xs) → (ys : List ℕ) → Mem ys (xs ∷ zs ∷ xss) → Leads rs (q .set) ys
-          old h ys (here e) = inr (subst (λ (a : List ℕ). T (comesFirst rs (q .set) a)) (sym e) h)
-          old h ys (there m) = q .before ys m
-
-          new : Leads rs xs (q .set) → (ys : List ℕ) → Mem ys (xs ∷ zs ∷ xss) → Leads rs xs ys
-          new l ys (here e) = inl (sym e)
-          new l ys (there m) =
-              leads-trans xs (q .set) ys (s xs (here refl)) (s (q .set) (there (q .mem))) (s ys (there m)) l (q .before ys m)
-
           pick : T (comesFirst rs (q .set) xs) ⊎ (T (comesFirst rs (q .set) xs) → ⊥) → First (xs ∷ zs ∷ xss)
-          pick (inl h) = record { set = q .set; found = step true (T-true _ h); mem = there (q .mem); before = old h }
-          pick (inr n) =
-              let m = s (q .set) (there (q .mem)) in
-              let k = s xs (here refl) in
-              let l = leads-of-not xs (q .set) k m (λ h. n (→comes (q .set) xs m k h)) in
-              record { set = xs; found = step false (T-false _ n); mem = here refl; before = new l }
+          pick (inl h) = first-old xs (zs ∷ xss) q h
+          pick (inr n) = first-new xs (zs ∷ xss) s q n
 
   pub first-some : (xs : List ℕ) (xss : List (List ℕ)) → AllSets rs (xs ∷ xss) → (ys : List ℕ) × (firstHeaviest rs (xs ∷ xss) ≡ some ys)
   first-some xs xss s = let q = first xs xss s in (q .set, q .found)

@@ -39,5 +39,9 @@ pub mod RowLength
 pub mod Built
 -- rescoring a built table is the build of the changed rows
 pub mod Rescore
+-- how many tuples a row can have
+pub mod TupleBound
+-- how many members a tree has, and how much it can weigh
+pub mod TreeSize
 -- the theorems that answer the demands
 pub mod Theorems
