@@ -14,3 +14,5 @@ pub mod Once
 pub mod Sublists
 -- the order of the integers, and sums
 pub mod Integers
+-- lists of clusters with the largest first
+pub mod Falling

@@ -10,3 +10,7 @@ pub mod Tuples
 pub mod RowTrees
 -- the row formula for any kind of result
 pub mod Kind
+-- covers: what is left of a tuple when children are taken
+pub mod Covers
+-- the next child holds the highest taxon left
+pub mod Leads
