@@ -16,3 +16,5 @@ pub mod Sublists
 pub mod Integers
 -- lists of clusters with the largest first
 pub mod Falling
+-- a list backward
+pub mod Reverse

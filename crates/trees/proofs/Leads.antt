@@ -9,7 +9,8 @@
 --     coversOf-stop                  nothing left to cover: the empty cover and no other
 --     coversOf-first, coversOf-above rows above R in front play no part
 --     within b, coversOf-within      nor do rows above any bound from R on
---     coversOf-local                 lists that agree on the rows not above R have the same covers of R
+--     coversOf-local                 lists that agree on the rows up to such a bound have the same covers of R
+--     coversOf-scored                and so have their scored rows
 -- Assumes nothing.
 use mathlib.Core.Path.{_≡_, refl, sym, ap, _∙_, subst}
 use mathlib.Core.Bool.{Bool, true, false, cond, _&&_}
@@ -25,11 +26,11 @@ use Rattle.laws.specs.Cluster.{inside, apart, unionOf, highest}
 use Rattle.laws.specs.Lists.{keep, sublists}
 use Rattle.laws.proofs.Tests.{T-and, and-T, T-false, bool-ext, eq→eqb}
 use Rattle.laws.proofs.Falling.{Falling, falling-first}
-use Rattle.laws.proofs.Keep.{keep-ext, keep-none}
+use Rattle.laws.proofs.Keep.{keep-ext, keep-none, keep-swap}
 use Rattle.laws.proofs.Sublists.{mem-of-sublist, sublists-drop}
 use Rattle.laws.proofs.Cluster.{inside-refl, le-of-inside, apart-of-inside, rest-apart, union-rest, unionOf-lt, inside-unionOf}
 use Rattle.laws.proofs.Taxa.{highest-le, highest-gt, highest-only}
-use Rattle.trees.specs.Rows.{Entry, cl}
+use Rattle.trees.specs.Rows.{Entry, cl, sc}
 use Rattle.trees.proofs.Covers.{covers, cover→, isCover, coversOf, inFront, takeIf, chosen, chosen-is, coversOf-cons}
 
 abbrev pub leads : ℕ → ℕ → Bool
@@ -179,5 +180,11 @@ module _ {A : Type 0} where
           let i = inside-unionOf (map cl τ) (cl x) (Memᴰ·map cl m) in
           le→leb (cl x) b (omega (arith, le-of-inside (cl x) (unionOf (map cl τ)) i, cover→ n R (map cl τ) t .union))
 
-  pub coversOf-local : (n R : ℕ) (es es′ : List (Entry A)) → keep (within R) es ≡ keep (within R) es′ → coversOf n R es ≡ coversOf n R es′
-  coversOf-local n R es es′ e = sym (coversOf-within n R R es (omega arith)) ∙ ap (coversOf n R) e ∙ coversOf-within n R R es′ (omega arith)
+  pub coversOf-local : (n R b : ℕ) (es es′ : List (Entry A)) → R ≤ b → keep (within b) es ≡ keep (within b) es′
+      → coversOf n R es ≡ coversOf n R es′
+  coversOf-local n R b es es′ h e = sym (coversOf-within n R b es h) ∙ ap (coversOf n R) e ∙ coversOf-within n R b es′ h
+
+  pub coversOf-scored : (n R b : ℕ) (es es′ : List (Entry A)) → R ≤ b → keep (within b) es ≡ keep (within b) es′
+      → coversOf n R (keep sc es) ≡ coversOf n R (keep sc es′)
+  coversOf-scored n R b es es′ h e =
+      coversOf-local n R b (keep sc es) (keep sc es′) h (keep-swap (within b) sc es ∙ ap (keep sc) e ∙ keep-swap sc (within b) es′)

@@ -14,3 +14,9 @@ pub mod Kind
 pub mod Covers
 -- the next child holds the highest taxon left
 pub mod Leads
+-- the search that a program runs, case by case
+pub mod Search
+-- the search meets the covers from the last to the first
+pub mod SearchOrder
+-- the search is the sum over the tuples
+pub mod SearchSum
