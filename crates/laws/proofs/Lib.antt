@@ -16,5 +16,5 @@ pub mod Sublists
 pub mod Integers
 -- lists of clusters with the largest first
 pub mod Falling
--- a list backward
-pub mod Reverse
+-- lists one behind another, and a list backward
+pub mod Appended

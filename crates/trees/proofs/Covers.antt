@@ -6,7 +6,7 @@
 --     chosen n R es              the same by recursion: each entry is taken or passed over
 --     chosen-is, coversOf-cons   it gives the covers in the same order
 --     tuples-are-covers          among rows below C the tuples of C are its covers
---     coversOf-map               the covers of the same rows with other results
+--     clusters-map, coversOf-map the covers of the same rows with other results
 -- Assumes nothing.
 use mathlib.Core.Path.{_≡_, refl, sym, ap, ap₂, _∙_, subst}
 use mathlib.Core.Logic.{_≢_}
@@ -85,6 +85,19 @@ module _ (n R c : ℕ) (cs : List ℕ) where
           let q = T-and (inside c R) (covers n (R - c) cs) h in
           →cover (suc n) R (c ∷ cs) (cover-join (q .0) (cover→ n (R - c) cs (q .1)))
 
+-- a cover of C by clusters other than C has two at least
+tuple-is-cover : (d C : ℕ) (cs : List ℕ) → 0 < C → ((c : ℕ) → Mem c cs → c ≢ C) → isTuple d C cs ≡ covers (d - 1) C cs
+tuple-is-cover d C cs p f = bool-ext (isTuple d C cs) (covers (d - 1) C cs) to from
+  where
+    to : T (isTuple d C cs) → T (covers (d - 1) C cs)
+    to h = let q = tuple→ d C cs h in →cover (d - 1) C cs (record { few = q .few; union = q .union; apart = q .apart })
+
+    from : T (covers (d - 1) C cs) → T (isTuple d C cs)
+    from h =
+        let q = cover→ (d - 1) C cs h in
+        let two = two-parts cs C (q .union) (λ z. omega arith) f in
+        →tuple d C cs (record { two = two; few = q .few; union = q .union; apart = q .apart })
+
 -- ---- the covers among entries
 
 module _ {A : Type 0} where
@@ -156,23 +169,15 @@ module _ {A : Type 0} where
       → tuples d C es ≡ coversOf (d - 1) C es
   tuples-are-covers d C es p f =
       keep-ext (λ (τ : List (Entry A)). isTuple d C (map cl τ)) (isCover (d - 1) C) (sublists es)
-      (λ τ m. bool-ext (isTuple d C (map cl τ)) (isCover (d - 1) C τ) (to (map cl τ)) (λ h. from (map cl τ) h (other τ m)))
+      (λ τ m. tuple-is-cover d C (map cl τ) p (other τ m))
     where
-      to : (cs : List ℕ) → T (isTuple d C cs) → T (covers (d - 1) C cs)
-      to cs h = let q = tuple→ d C cs h in →cover (d - 1) C cs (record { few = q .few; union = q .union; apart = q .apart })
-
       other : (τ : List (Entry A)) → Mem τ (sublists es) → (c : ℕ) → Mem c (map cl τ) → c ≢ C
       other τ m c k e =
           let q = Memᴰ·of-map cl τ k in
           omega (arith, q .2, f (q .0) (mem-of-sublist es τ m (q .0) (q .1)))
 
-      from : (cs : List ℕ) → T (covers (d - 1) C cs) → ((c : ℕ) → Mem c cs → c ≢ C) → T (isTuple d C cs)
-      from cs h g =
-          let q = cover→ (d - 1) C cs h in
-          →tuple d C cs (record { two = two-parts cs C (q .union) (λ z. omega arith) g; few = q .few; union = q .union; apart = q .apart })
-
 module _ {A B : Type 0} (g : Entry A → Entry B) (same : (e : Entry A) → cl (g e) ≡ cl e) where
-  clusters-map : (τ : List (Entry A)) → map cl (map g τ) ≡ map cl τ
+  pub clusters-map : (τ : List (Entry A)) → map cl (map g τ) ≡ map cl τ
   clusters-map [] = refl
   clusters-map (e ∷ τ) = ap₂ (λ (c : ℕ) (cs : List ℕ). c ∷ cs) (same e) (clusters-map τ)
 

@@ -2,7 +2,7 @@
 -- looked for among all rows: a row too large takes no part.
 --     leads c R, leads→, →leads      c lies inside R and is more than half of it
 --     leads-reaches, leads-of-reach  which is to hold R's highest taxon
---     leads-iff-highest              or to have the same highest taxon
+--     leads-iff-highest              or to have the same highest taxon; reach-iff-highest says so of any row up to R
 --     coversOf-lead                  one entry more, among rows that fall: it leads, or plays no part
 --     coversOf-one                   the same with one child left: the entry is R itself
 --     coversOf-zero-is               with no child left: nothing is left to cover
@@ -59,17 +59,16 @@ leads-reaches c R p h = go (decLt c (2 ^ highest R))
 pub leads-of-reach : (c R : ℕ) → 0 < R → T (inside c R) → 2 ^ highest R ≤ c → T (leads c R)
 leads-of-reach c R p i h = →leads c R i (omega (arith, highest-gt R p, le-of-inside c R i))
 
+-- the rows up to R that reach its highest taxon are those with the same highest taxon
+pub reach-iff-highest : (c R : ℕ) → 0 < c → c ≤ R → (2 ^ highest R ≤ c) ↔ (highest c ≡ highest R)
+reach-iff-highest c R p l =
+    (λ h. highest-only c (highest R) h (omega (arith, highest-gt R (omega arith))), λ e. subst (λ (t : ℕ). 2 ^ t ≤ c) e (highest-le c p))
+
 pub leads-iff-highest : (c R : ℕ) → 0 < c → T (inside c R) → T (leads c R) ↔ (highest c ≡ highest R)
-leads-iff-highest c R p i = (to, from)
-  where
-    r : 0 < R
-    r = omega (arith, le-of-inside c R i)
-
-    to : T (leads c R) → highest c ≡ highest R
-    to h = highest-only c (highest R) (leads-reaches c R r h) (omega (arith, highest-gt R r, le-of-inside c R i))
-
-    from : highest c ≡ highest R → T (leads c R)
-    from e = leads-of-reach c R r i (subst (λ (t : ℕ). 2 ^ t ≤ c) e (highest-le c p))
+leads-iff-highest c R p i =
+    let l = le-of-inside c R i in
+    let q = reach-iff-highest c R p l in
+    (λ h. q .0 (leads-reaches c R (omega arith) h), λ e. leads-of-reach c R (omega arith) i (q .1 e))
 
 -- ---- covers from below
 

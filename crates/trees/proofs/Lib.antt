@@ -20,3 +20,5 @@ pub mod Search
 pub mod SearchOrder
 -- the search is the sum over the tuples
 pub mod SearchSum
+-- the search meets exactly the tuples, each once
+pub mod TuplesMet

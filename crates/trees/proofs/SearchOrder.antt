@@ -15,7 +15,7 @@ use lib.Dec.{T, eqb, eqb→eq}
 use Rattle.laws.specs.Lists.{keepIf, keep}
 use Rattle.laws.proofs.Tests.{T-and, T-false}
 use Rattle.laws.proofs.Falling.{Falling, falling-first, falling-map-keep}
-use Rattle.laws.proofs.Reverse.{map-reverse}
+use Rattle.laws.proofs.Appended.{map-reverse}
 use Rattle.laws.proofs.Cluster.{le-of-inside}
 use Rattle.trees.specs.Rows.{Entry, cl, sc}
 use Rattle.trees.proofs.Kind.{Kind, prodK, overTuples}
@@ -112,32 +112,43 @@ module _ {A : Type 0} (k : Kind A) (law : Summing k) where
   sum-joined true s x y z e = ap (λ (v : A). k .plus (k .plus s v) z) (e tt) ∙ law .plus-assoc s y z
   sum-joined false s x y z e = ap (k .plus s) (sym (law .none-plus z))
 
-  -- the searches inside are asked of the rows `all`; for what a row e leaves when it leads R, the rows behind e do as well
-  scan-sum : (n R : ℕ) → 0 < R → (f : Entry A → A) (all es : List (Entry A)) → Falling (map cl es)
-      → ((e : Entry A) → Mem e es → T (leads (cl e) R) → f e ≡ k .times (e .val) (downward n (R - cl e) all))
-      → ((e : Entry A) → Mem e es → (r : ℕ) → r < cl e → r < R → downward n r es ≡ downward n r all)
-      → (s : A) → scan k f R es s ≡ k .plus s (downward (suc n) R es)
-  scan-sum n R p f all [] h g same s =
-      scan-ended k f R s ∙ sym (ap (k .plus s) (downward-none (suc n) R [] p (sym (chosen-is (suc n) R []))) ∙ law .plus-none s)
-  scan-sum n R p f all (e ∷ es) h g same s =
-      scan-cons k f R e es s
-      ∙ scan-sum n R p f all es (h .1) (λ x m. g x (there m)) behind (cond (sc e && leads (cl e) R) (k .plus s (f e)) s)
-      ∙ sum-joined (sc e && leads (cl e) R) s (f e) (k .times (e .val) (downward n (R - cl e) es)) (downward (suc n) R es) here-adds
-      ∙ ap (k .plus s) (sym (downward-cons n R e es h))
-    where
-      behind : (x : Entry A) → Mem x es → (r : ℕ) → r < cl x → r < R → downward n r es ≡ downward n r all
-      behind x m r l b =
-          sym (downward-first n r e es (omega (arith, falling-first cl e es h x m))) ∙ same x (there m) r l b
+  -- what f adds for a row is its value times the sum over `all`, and below a row of es the rows es do as well as `all`
+  record Inner (n R : ℕ) (f : Entry A → A) (all es : List (Entry A)) : Type 0 where
+    adds : (e : Entry A) → Mem e es → T (leads (cl e) R) → f e ≡ k .times (e .val) (downward n (R - cl e) all)
+    same : (e : Entry A) → Mem e es → (r : ℕ) → r < cl e → r < R → downward n r es ≡ downward n r all
 
-      here-adds : T (sc e && leads (cl e) R) → f e ≡ k .times (e .val) (downward n (R - cl e) es)
-      here-adds t =
-          let q = T-and (sc e) (leads (cl e) R) t in
-          let l = leads→ (cl e) R (q .1) .1 in
-          g e (here refl) (q .1)
-          ∙ ap (k .times (e .val))
-          (sym (same e (here refl) (R - cl e) l (omega (arith, h .0 .nonzero))) ∙ downward-first n (R - cl e) e es l)
+  module _ (n R : ℕ) (f : Entry A → A) (all : List (Entry A)) (e : Entry A) (es : List (Entry A)) (h : Falling (map cl (e ∷ es))) where
+    inner-rest : Inner n R f all (e ∷ es) → Inner n R f all es
+    inner-rest i = record {
+      adds = λ x m. i .adds x (there m);
+      same = λ x m r l b. sym (downward-first n r e es (omega (arith, falling-first cl e es h x m))) ∙ i .same x (there m) r l b;
+    }
+
+    inner-first : Inner n R f all (e ∷ es) → T (sc e && leads (cl e) R) → f e ≡ k .times (e .val) (downward n (R - cl e) es)
+    inner-first i t =
+        let q = T-and (sc e) (leads (cl e) R) t in
+        let l = leads→ (cl e) R (q .1) in
+        let b : R - cl e < R = omega (arith, h .0 .nonzero, le-of-inside (cl e) R (l .0)) in
+        i .adds e (here refl) (q .1)
+        ∙ ap (k .times (e .val)) (sym (i .same e (here refl) (R - cl e) (l .1) b) ∙ downward-first n (R - cl e) e es (l .1))
+
+  scan-sum : (n R : ℕ) → 0 < R → (f : Entry A → A) (all es : List (Entry A)) → Falling (map cl es) → Inner n R f all es
+      → (s : A) → scan k f R es s ≡ k .plus s (downward (suc n) R es)
+  scan-sum n R p f all [] h i s =
+      scan-ended k f R s ∙ sym (ap (k .plus s) (downward-none (suc n) R [] p (sym (chosen-is (suc n) R []))) ∙ law .plus-none s)
+  scan-sum n R p f all (e ∷ es) h i s =
+      scan-cons k f R e es s
+      ∙ scan-sum n R p f all es (h .1) (inner-rest n R f all e es h i) (cond (sc e && leads (cl e) R) (k .plus s (f e)) s)
+      ∙ sum-joined (sc e && leads (cl e) R) s (f e) _ (downward (suc n) R es) (inner-first n R f all e es h i)
+      ∙ ap (k .plus s) (sym (downward-cons n R e es h))
 
   -- ---- the search
+
+  one-joined : (b : Bool) (v x z : A) → (T b → x ≡ k .none) → x ≡ z
+      → cond b v x ≡ k .plus (cond b (k .times v (k .plus (k .unit) (k .none))) (k .none)) z
+  one-joined true v x z q e =
+      sym (ap₂ (k .plus) (ap (k .times v) (law .plus-none (k .unit)) ∙ law .times-unit v) (sym e ∙ q tt) ∙ law .plus-none v)
+  one-joined false v x z q e = e ∙ sym (law .none-plus z)
 
   lookup-sum : (R : ℕ) (es : List (Entry A)) → Falling (map cl es) → 0 < R → lookup k R es ≡ downward 1 R es
   lookup-sum R [] h p = lookup-missing k R [] (λ x m. absurd (mem-nil m)) ∙ sym (downward-none 1 R [] p (sym (chosen-is 1 R [])))
@@ -146,19 +157,11 @@ module _ {A : Type 0} (k : Kind A) (law : Summing k) where
       gone : T (eqb (cl e) R) → lookup k R es ≡ k .none
       gone t = lookup-missing k R es (λ x m q. omega (arith, falling-first cl e es h x m, eqb→eq (cl e) R t))
 
-      at : (b : Bool) → (T b → lookup k R es ≡ k .none) → lookup k R es ≡ downward 1 R es
-          → cond b (e .val) (lookup k R es) ≡ k .plus (cond b (k .times (e .val) (k .plus (k .unit) (k .none))) (k .none)) (downward 1 R es)
-      at true q ih =
-          sym (ap₂ (k .plus) (ap (k .times (e .val)) (law .plus-none (k .unit)) ∙ law .times-unit (e .val)) (sym ih ∙ q tt)
-          ∙ law .plus-none (e .val))
-      at false q ih = ih ∙ sym (law .none-plus (downward 1 R es))
-
       go : (b : Bool) → lookup k R es ≡ downward 1 R es
           → cond (b && eqb (cl e) R) (e .val) (lookup k R es) ≡ backward (coversOf 1 R (keepIf b e (keep sc es)))
       go true ih =
-          at (eqb (cl e) R) gone ih
-          ∙ sym (ap backward (coversOf-one R e (keep sc es))
-          ∙ backward-take (coversOf 1 R (keep sc es)) (eqb (cl e) R) e ([] ∷ []))
+          one-joined (eqb (cl e) R) (e .val) (lookup k R es) (downward 1 R es) gone ih
+          ∙ sym (ap backward (coversOf-one R e (keep sc es)) ∙ backward-take (coversOf 1 R (keep sc es)) (eqb (cl e) R) e ([] ∷ []))
       go false ih = ih
 
   gain-is : (n R : ℕ) (es : List (Entry A)) → Falling (map cl es) → ((r : ℕ) → 0 < r → search k n r es ≡ downward n r es)
@@ -174,21 +177,26 @@ module _ {A : Type 0} (k : Kind A) (law : Summing k) where
           ∙ sym (rw q (ap (k .times (e .val)) (downward-stop n es h) ∙ law .times-unit (e .val)))
       go (suc x) q = gain-part k n R es e (omega arith) ∙ ap (k .times (e .val)) (ih (R - cl e) (omega arith))
 
+  -- a scan whose inner searches are asked of `all`, where those are the sums over the covers
+  scan-gain : (n R : ℕ) (all es : List (Entry A)) → Falling (map cl all) → Falling (map cl es) → 0 < R
+      → keep (within (R - 1)) all ≡ keep (within (R - 1)) es → ((r : ℕ) → 0 < r → search k n r all ≡ downward n r all)
+      → (s : A) → scan k (gain k n R all) R es s ≡ k .plus s (downward (suc n) R es)
+  scan-gain n R all es g h p e ih s =
+      scan-sum n R p (gain k n R all) all es h (record { adds = λ x m t. gain-is n R all g ih x t; same = same }) s
+    where
+      same : (x : Entry A) → Mem x es → (r : ℕ) → r < cl x → r < R → downward n r es ≡ downward n r all
+      same x m r l b = ap backward (coversOf-scored n r (R - 1) es all (omega arith) (sym e))
+
   pub search-in-order : (n R : ℕ) (es : List (Entry A)) → Falling (map cl es) → 0 < R
       → search k n R es ≡ overTuples k (reverse (coversOf n R (keep sc es)))
   search-in-order zero R es h p = search-none k R es ∙ sym (downward-none 0 R es p (coversOf-zero-is R (keep sc es)))
   search-in-order (suc zero) R es h p = search-one k R es ∙ lookup-sum R es h p
   search-in-order (suc (suc n)) R es h p =
       search-suc k n R es
-      ∙ scan-sum (suc n) R p (gain k (suc n) R es) es es h
-      (λ e m t. gain-is (suc n) R es h (λ r q. search-in-order (suc n) r es h q) e t) (λ e m r l b. refl) (k .none)
+      ∙ scan-gain (suc n) R es es h h p refl (λ r q. search-in-order (suc n) r es h q) (k .none)
       ∙ law .none-plus (downward (suc (suc n)) R es)
 
   pub scan-in-order : (n R : ℕ) (all es : List (Entry A)) → Falling (map cl all) → Falling (map cl es) → 0 < R
       → keep (within (R - 1)) all ≡ keep (within (R - 1)) es
       → (s : A) → scan k (gain k n R all) R es s ≡ k .plus s (overTuples k (reverse (coversOf (suc n) R (keep sc es))))
-  scan-in-order n R all es g h p e s =
-      scan-sum n R p (gain k n R all) all es h (λ x m t. gain-is n R all g (λ r q. search-in-order n r all g q) x t) same s
-    where
-      same : (x : Entry A) → Mem x es → (r : ℕ) → r < cl x → r < R → downward n r es ≡ downward n r all
-      same x m r l b = ap backward (coversOf-scored n r (R - 1) es all (omega arith) (sym e))
+  scan-in-order n R all es g h p e s = scan-gain n R all es g h p e (λ r q. search-in-order n r all g q) s

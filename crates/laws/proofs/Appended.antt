@@ -1,13 +1,19 @@
--- A list backward.
+-- Lists one behind another, and a list backward.
+--     bind-append                    the lists of `bind`, of two lists one behind the other
 --     map-reverse                    the images of a list backward
 --     mem-reverse, mem-of-reverse    it has the same elements
 --     once-reverse                   and none of them twice where the list has none twice
 -- Assumes nothing.
-use mathlib.Core.Path.{_≡_, refl, sym, subst}
-use mathlib.Core.List.{List, [], _∷_, map, reverse, reverseAux, reverse-cons, reverse-reverse}
+use mathlib.Core.Path.{_≡_, refl, sym, ap, _∙_, subst}
+use mathlib.Core.List.{List, [], _∷_, _++_, map, append-assoc, reverse, reverseAux, reverse-cons, reverse-reverse}
 use mathlib.Core.List.{List·Memᴰ as Mem, List·Memᴰ·head as here, List·Memᴰ·tail as there, List·Memᴰ·not-nil as mem-nil}
-use Rattle.laws.specs.Lists.{Once}
+use Rattle.laws.specs.Lists.{bind, Once}
 use Rattle.laws.proofs.Once.{once-append}
+
+module _ {A B : Type 0} (f : A → List B) where
+  pub bind-append : (s t : List A) → bind f (s ++ t) ≡ bind f s ++ bind f t
+  bind-append [] t = refl
+  bind-append (x ∷ xs) t = ap (λ (r : List B). f x ++ r) (bind-append xs t) ∙ sym (append-assoc (f x) (bind f xs) (bind f t))
 
 module _ {A B : Type 0} (f : A → B) where
   map-onto : (l r : List A) → map f (reverseAux l r) ≡ reverseAux (map f l) (map f r)
