@@ -1,5 +1,5 @@
 -- Lists of clusters with the largest first: strictly falling, and none of them 0. The rows of a table stand so.
---     Falling cs          strictly falling, and none is 0
+--     First, Falling cs   strictly falling, and none is 0
 --     falling-first       the first is larger than every other
 --     falling-pos         each is more than 0
 --     falling-map-keep    what a filter leaves falls too

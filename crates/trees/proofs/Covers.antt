@@ -3,6 +3,7 @@
 --     CoverFacts, cover→, →cover the test as a record, out of it and into it
 --     covers-cons                one child more: it lies inside R, and the others cover what is left
 --     isCover, coversOf n R es   the covers of R among the sublists of entries
+--     inFront, takeIf            an entry in front of each of some lists; none of them where it may not be taken
 --     chosen n R es              the same by recursion: each entry is taken or passed over
 --     chosen-is, coversOf-cons   it gives the covers in the same order
 --     tuples-are-covers          among rows below C the tuples of C are its covers

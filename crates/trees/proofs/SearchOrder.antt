@@ -117,20 +117,21 @@ module _ {A : Type 0} (k : Kind A) (law : Summing k) where
     adds : (e : Entry A) → Mem e es → T (leads (cl e) R) → f e ≡ k .times (e .val) (downward n (R - cl e) all)
     same : (e : Entry A) → Mem e es → (r : ℕ) → r < cl e → r < R → downward n r es ≡ downward n r all
 
-  module _ (n R : ℕ) (f : Entry A → A) (all : List (Entry A)) (e : Entry A) (es : List (Entry A)) (h : Falling (map cl (e ∷ es))) where
-    inner-rest : Inner n R f all (e ∷ es) → Inner n R f all es
-    inner-rest i = record {
-      adds = λ x m. i .adds x (there m);
-      same = λ x m r l b. sym (downward-first n r e es (omega (arith, falling-first cl e es h x m))) ∙ i .same x (there m) r l b;
-    }
+  inner-rest : {n R : ℕ} {f : Entry A → A} {all : List (Entry A)} (e : Entry A) (es : List (Entry A)) → Falling (map cl (e ∷ es))
+      → Inner n R f all (e ∷ es) → Inner n R f all es
+  inner-rest {n} e es h i = record {
+    adds = λ x m. i .adds x (there m);
+    same = λ x m r l b. sym (downward-first n r e es (omega (arith, falling-first cl e es h x m))) ∙ i .same x (there m) r l b;
+  }
 
-    inner-first : Inner n R f all (e ∷ es) → T (sc e && leads (cl e) R) → f e ≡ k .times (e .val) (downward n (R - cl e) es)
-    inner-first i t =
-        let q = T-and (sc e) (leads (cl e) R) t in
-        let l = leads→ (cl e) R (q .1) in
-        let b : R - cl e < R = omega (arith, h .0 .nonzero, le-of-inside (cl e) R (l .0)) in
-        i .adds e (here refl) (q .1)
-        ∙ ap (k .times (e .val)) (sym (i .same e (here refl) (R - cl e) (l .1) b) ∙ downward-first n (R - cl e) e es (l .1))
+  inner-first : {n R : ℕ} {f : Entry A → A} {all : List (Entry A)} (e : Entry A) (es : List (Entry A)) → Falling (map cl (e ∷ es))
+      → Inner n R f all (e ∷ es) → T (sc e && leads (cl e) R) → f e ≡ k .times (e .val) (downward n (R - cl e) es)
+  inner-first {n} {R} e es h i t =
+      let q = T-and (sc e) (leads (cl e) R) t in
+      let l = leads→ (cl e) R (q .1) in
+      let b : R - cl e < R = omega (arith, h .0 .nonzero, le-of-inside (cl e) R (l .0)) in
+      i .adds e (here refl) (q .1)
+      ∙ ap (k .times (e .val)) (sym (i .same e (here refl) (R - cl e) (l .1) b) ∙ downward-first n (R - cl e) e es (l .1))
 
   scan-sum : (n R : ℕ) → 0 < R → (f : Entry A → A) (all es : List (Entry A)) → Falling (map cl es) → Inner n R f all es
       → (s : A) → scan k f R es s ≡ k .plus s (downward (suc n) R es)
@@ -138,8 +139,8 @@ module _ {A : Type 0} (k : Kind A) (law : Summing k) where
       scan-ended k f R s ∙ sym (ap (k .plus s) (downward-none (suc n) R [] p (sym (chosen-is (suc n) R []))) ∙ law .plus-none s)
   scan-sum n R p f all (e ∷ es) h i s =
       scan-cons k f R e es s
-      ∙ scan-sum n R p f all es (h .1) (inner-rest n R f all e es h i) (cond (sc e && leads (cl e) R) (k .plus s (f e)) s)
-      ∙ sum-joined (sc e && leads (cl e) R) s (f e) _ (downward (suc n) R es) (inner-first n R f all e es h i)
+      ∙ scan-sum n R p f all es (h .1) (inner-rest e es h i) (cond (sc e && leads (cl e) R) (k .plus s (f e)) s)
+      ∙ sum-joined (sc e && leads (cl e) R) s (f e) _ (downward (suc n) R es) (inner-first e es h i)
       ∙ ap (k .plus s) (sym (downward-cons n R e es h))
 
   -- ---- the search

@@ -4,8 +4,8 @@
 --     lone e               the entry whose value is the one tuple of e alone
 --     met n R es           the tuples that the search meets, in the order in which it meets them
 --     met-is, met-tuples   they are the covers of R, and for a row its tuples, from the last to the first
---     mem-met, mem-of-met  each tuple of a row is met, and nothing else
---     met-once             and none of them twice
+--     Exactly xs ys        xs has each element of ys and no other, and none twice
+--     met-exactly          the search of a row meets exactly its tuples, each once
 -- Assumes nothing.
 use mathlib.Core.Path.{_≡_, refl, sym, ap, ap₂, _∙_, subst}
 use mathlib.Core.List.{List, [], _∷_, _++_, map, append-nil, append-assoc, reverse, List·Memᴰ as Mem}
@@ -22,6 +22,11 @@ use Rattle.trees.proofs.Kind.{Kind, prodK, overTuples}
 use Rattle.trees.proofs.Covers.{coversOf, tuples-are-covers, clusters-map, coversOf-map}
 use Rattle.trees.proofs.Search.{search}
 use Rattle.trees.proofs.SearchOrder.{Summing, search-in-order}
+
+pub record Exactly {B : Type 0} (xs ys : List B) : Type 0 where
+  pub each : (x : B) → Mem x ys → Mem x xs
+  pub only : (x : B) → Mem x xs → Mem x ys
+  pub once : Once xs
 
 module _ {A : Type 0} where
   -- each of xs with y behind it
@@ -75,23 +80,22 @@ module _ {A : Type 0} where
       ∙ ap (λ (l : List (Entry (List (List (Entry A))))). overTuples tupleKind (reverse (coversOf n R l))) (keep-map lone sc es)
       ∙ over-back n R (keep sc es)
 
-  module _ (d C : ℕ) (es : List (Entry A)) (h : Falling (map cl es)) (p : 0 < C) (f : (x : Entry A) → Mem x es → cl x < C) where
-    pub met-tuples : met (d - 1) C es ≡ reverse (tuples d C (keep sc es))
-    met-tuples =
-        met-is (d - 1) C es h p
-        ∙ ap reverse (sym (tuples-are-covers d C (keep sc es) p (λ x m. f x (mem-of-keep sc es m .0))))
+  pub met-tuples : (d C : ℕ) (es : List (Entry A)) → Falling (map cl es) → 0 < C → ((x : Entry A) → Mem x es → cl x < C)
+      → met (d - 1) C es ≡ reverse (tuples d C (keep sc es))
+  met-tuples d C es h p f =
+      met-is (d - 1) C es h p ∙ ap reverse (sym (tuples-are-covers d C (keep sc es) p (λ x m. f x (mem-of-keep sc es m .0))))
 
-    pub mem-met : {τ : List (Entry A)} → Mem τ (tuples d C (keep sc es)) → Mem τ (met (d - 1) C es)
-    mem-met {τ} m = subst (Mem τ) (sym met-tuples) (mem-reverse (tuples d C (keep sc es)) m)
+  pub met-exactly : (d C : ℕ) (es : List (Entry A)) → Falling (map cl es) → 0 < C → ((x : Entry A) → Mem x es → cl x < C)
+      → Exactly (met (d - 1) C es) (tuples d C (keep sc es))
+  met-exactly d C es h p f =
+      subst (λ (τs : List (List (Entry A))). Exactly τs (tuples d C (keep sc es))) (sym (met-tuples d C es h p f))
+      (record { each = λ τ. mem-reverse {x = τ} all; only = λ τ. mem-of-reverse {x = τ} all; once = once-reverse all no-two })
+    where
+      all : List (List (Entry A))
+      all = tuples d C (keep sc es)
 
-    pub mem-of-met : {τ : List (Entry A)} → Mem τ (met (d - 1) C es) → Mem τ (tuples d C (keep sc es))
-    mem-of-met {τ} m = mem-of-reverse (tuples d C (keep sc es)) (subst (Mem τ) met-tuples m)
+      rows : Once (keep sc es)
+      rows = once-keep sc es (once-of-map cl es (falling-once (map cl es) h))
 
-    pub met-once : Once (met (d - 1) C es)
-    met-once =
-        subst Once (sym met-tuples)
-        (once-reverse (tuples d C (keep sc es))
-        (once-keep (λ (τ : List (Entry A)). isTuple d C (map cl τ)) (sublists (keep sc es)) (sublists-once (keep sc es) rows)))
-      where
-        rows : Once (keep sc es)
-        rows = once-keep sc es (once-of-map cl es (falling-once (map cl es) h))
+      no-two : Once all
+      no-two = once-keep (λ (τ : List (Entry A)). isTuple d C (map cl τ)) (sublists (keep sc es)) (sublists-once (keep sc es) rows)
