@@ -22,3 +22,7 @@ pub mod KeepCount
 pub mod Choose
 -- families of clusters that nest: how large they can be
 pub mod Laminar
+-- lists of clusters with the largest first
+pub mod Descends
+-- lists one behind another, and a list backward
+pub mod Appended

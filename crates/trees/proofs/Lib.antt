@@ -43,5 +43,17 @@ pub mod Rescore
 pub mod TupleBound
 -- how many members a tree has, and how much it can weigh
 pub mod TreeSize
+-- covers: what is left of a tuple when children are taken
+pub mod Covers
+-- the next child holds the highest taxon left
+pub mod Leads
+-- the search that a program runs, case by case
+pub mod Search
+-- the search meets the covers from the last to the first
+pub mod SearchOrder
+-- the search is the sum over the tuples
+pub mod SearchSum
+-- the search meets exactly the tuples, each once
+pub mod TuplesMet
 -- the theorems that answer the demands
 pub mod Theorems

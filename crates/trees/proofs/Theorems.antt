@@ -68,7 +68,7 @@ module _ (w d : ℕ) (rs : List Row) (f : RowFacts w rs) (C : ℕ) where
         go (inl e) = ltZ-irrefl (weightOf rs xs) (subst (λ (zs : List ℕ). T (ltZ (weightOf rs xs) (weightOf rs zs))) (sym e) h)
         go (inr t) =
             at (before→ (setKey rs xs) (setKey rs ys)
-              (subst T (comes-is-key rs (f .falls) (nonzero w d rs f) xs ys (sets w d rs f C xs best-is-tree) (sets w d rs f C ys m)) t))
+            (subst T (comes-is-key rs (f .falls) (nonzero w d rs f) xs ys (sets w d rs f C xs best-is-tree) (sets w d rs f C ys m)) t))
 
   pub best-only : (zs : List ℕ) → Mem zs trees → ((ys : List ℕ) → Mem ys trees → (zs ≡ ys) ⊎ T (comesFirst rs zs ys)) → firstHeaviest rs trees ≡ some zs
   best-only zs m h = first-only rs (f .falls) (nonzero w d rs f) trees (sets w d rs f C) zs m h

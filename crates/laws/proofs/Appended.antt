@@ -1,0 +1,49 @@
+-- Lists one behind another, and a list backward.
+--     bind-append                    the lists of `bind`, of two lists one behind the other
+--     map-reverse                    the images of a list backward
+--     mem-reverse, mem-of-reverse    it has the same elements
+--     once-reverse                   and none of them twice where the list has none twice
+-- Assumes nothing.
+use mathlib.Core.Path.{_≡_, refl, sym, ap, _∙_, subst}
+use mathlib.Core.List.{List, [], _∷_, _++_, map, append-assoc, reverse, reverseAux, reverse-cons, reverse-reverse}
+use mathlib.Core.List.{List·Memᴰ as Mem, List·Memᴰ·head as here, List·Memᴰ·tail as there, List·Memᴰ·not-nil as mem-nil}
+use Rattle.laws.specs.Lists.{bind, Once}
+use Rattle.laws.proofs.Once.{once-append}
+
+module _ {A B : Type 0} (f : A → List B) where
+  pub bind-append : (s t : List A) → bind f (s ++ t) ≡ bind f s ++ bind f t
+  bind-append [] t = refl
+  bind-append (x ∷ xs) t = ap (λ (r : List B). f x ++ r) (bind-append xs t) ∙ sym (append-assoc (f x) (bind f xs) (bind f t))
+
+module _ {A B : Type 0} (f : A → B) where
+  map-onto : (l r : List A) → map f (reverseAux l r) ≡ reverseAux (map f l) (map f r)
+  map-onto [] r = refl
+  map-onto (x ∷ xs) r = map-onto xs (x ∷ r)
+
+  pub map-reverse : (l : List A) → map f (reverse l) ≡ reverse (map f l)
+  map-reverse l = map-onto l []
+
+module _ {A : Type 0} where
+  -- the elements of what is turned over, and of what it is put onto
+  mem-under : {x : A} (l r : List A) → Mem x r → Mem x (reverseAux l r)
+  mem-under [] r m = m
+  mem-under (y ∷ ys) r m = mem-under ys (y ∷ r) (there m)
+
+  mem-turned : {x : A} (l r : List A) → Mem x l → Mem x (reverseAux l r)
+  mem-turned (y ∷ ys) r (here e) = mem-under ys (y ∷ r) (here e)
+  mem-turned (y ∷ ys) r (there m) = mem-turned ys (y ∷ r) m
+
+  pub mem-reverse : {x : A} (l : List A) → Mem x l → Mem x (reverse l)
+  mem-reverse l m = mem-turned l [] m
+
+  pub mem-of-reverse : {x : A} (l : List A) → Mem x (reverse l) → Mem x l
+  mem-of-reverse {x} l m = subst (Mem x) (reverse-reverse l) (mem-reverse (reverse l) m)
+
+  pub once-reverse : (l : List A) → Once l → Once (reverse l)
+  once-reverse [] d = tt
+  once-reverse (x ∷ xs) d =
+      subst Once (sym (reverse-cons x xs)) (once-append (reverse xs) (x ∷ []) (once-reverse xs (d .1)) (mem-nil, tt) (λ y m k. apart y m k))
+    where
+      apart : (y : A) → Mem y (reverse xs) → Mem y (x ∷ []) → ⊥
+      apart y m (here e) = d .0 (subst (λ (z : A). Mem z xs) e (mem-of-reverse xs m))
+      apart y m (there k) = mem-nil k
