@@ -1,0 +1,12 @@
+-- `cluster::leaves::is_inside` meets its contract: the code is the definition of `inside`. Assumes nothing.
+use mathlib.Core.Path.{refl}
+use Rattle.laws.specs.Cluster.{inside}
+use Rattle.cluster.proofs.leaves.is_inside.Statement.{statement}
+use Rattle.cluster.proofs.leaves.is_inside.Tie as tie
+
+returns : tie.Need-returns
+unfolding inside
+returns c = refl
+
+pub is-inside-spec : {M : Type 1} → statement M
+is-inside-spec = tie.close (tie.spec returns)

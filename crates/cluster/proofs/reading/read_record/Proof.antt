@@ -1,0 +1,70 @@
+-- `cluster::reading::read_record` meets its contract: each return is one case of reading. Assumes nothing.
+use borrow.Author.Needs.{needs}
+use mathlib.Core.Path.{_≡_, sym, ap, ap₂, _∙_}
+use denote.Ref.{now}
+use Rattle.cluster.specs.Rule.{brokenRule, isKept}
+use Rattle.cluster.specs.Reading.{ruleOf, readAs}
+use Rattle.cluster.proofs.Laws.Reading.{readRecord-length, readRecord-broken, readRecord-kept}
+use Rattle.cluster.proofs.reading.read_record.Statement.{statement}
+use Rattle.cluster.proofs.reading.read_record.Tie as tie
+
+-- what the record rules said of the bytes
+ruling : (c : tie.After-is-kept)
+    → isKept (ruleOf (now (c .before .before .before .before .before .before .args .bytes))) ≡ c .is-kept .result
+ruling c =
+    let rule = c .before in
+    let spare = rule .before in
+    let told = rule .broken-rule .ensures ∙ ap₂ brokenRule (spare .before .record-of .ensures) (spare .has-spare .ensures) in
+    sym (c .is-kept .ensures ∙ ap isKept told)
+
+not-read-requires : tie.Need-not-read-requires
+not-read-requires c κs = search needs
+
+returns : tie.Need-returns
+returns c =
+    let l = now (c .before .before .before .args .bytes) in
+    c .not-read .ensures ∙ sym (readRecord-length l (c .before .if1 .taken))
+
+record-of-requires : tie.Need-record-of-requires
+record-of-requires c κs = search needs
+
+has-spare-requires : tie.Need-has-spare-requires
+has-spare-requires c κs = search needs
+
+broken-rule-requires : tie.Need-broken-rule-requires
+broken-rule-requires c κs = search needs
+
+is-kept-requires : tie.Need-is-kept-requires
+is-kept-requires c κs = search needs
+
+returns-2 : tie.Need-returns-2
+returns-2 c =
+    let at-record = c .before .before .before .before in
+    let at-length = at-record .before in
+    let l = now (at-length .before .before .args .bytes) in
+    ap readAs (at-record .record-of .ensures)
+    ∙ sym (readRecord-kept l (at-length .if1 .left) (ruling (c .before) ∙ c .if2 .taken))
+
+not-read-requires-2 : tie.Need-not-read-requires-2
+not-read-requires-2 c κs = search needs
+
+returns-3 : tie.Need-returns-3
+returns-3 c =
+    let at-kept = c .before .before in
+    let at-length = at-kept .before .before .before .before in
+    let l = now (at-length .before .before .args .bytes) in
+    c .not-read2 .ensures ∙ sym (readRecord-broken l (at-length .if1 .left) (ruling at-kept ∙ c .before .if2 .left))
+
+pub read-record-spec : {M : Type 1} → statement M
+read-record-spec =
+    tie.close
+    (tie.spec
+    not-read-requires
+    returns
+    record-of-requires
+    has-spare-requires
+    broken-rule-requires
+    is-kept-requires
+    returns-2
+    not-read-requires-2
+    returns-3)

@@ -1,0 +1,21 @@
+-- `cluster::rule::is_in_range` meets its contract: one end of the range after the other. Assumes nothing.
+use borrow.Author.Needs.{needs}
+use mathlib.Core.Path.{sym}
+use mir.Facts.{toZ-ofZ}
+use Rattle.cluster.proofs.Laws.Rule.{range-low, range-high}
+use Rattle.cluster.proofs.rule.is_in_range.Statement.{statement}
+use Rattle.cluster.proofs.rule.is_in_range.Tie as tie
+
+sub-if1 : tie.Need-sub-if1
+sub-if1 c = search needs
+
+returns : tie.Need-returns
+returns c = sym (range-low (c .before .args .weight) (rw (toZ-ofZ (c .before .fits .weight)) at (c .if1 .taken)))
+
+returns-2 : tie.Need-returns-2
+returns-2 c =
+    rw (toZ-ofZ (c .before .fits .weight))
+    (range-high (c .before .args .weight) (rw (toZ-ofZ (c .before .fits .weight)) at (c .if1 .left)))
+
+pub is-in-range-spec : {M : Type 1} → statement M
+is-in-range-spec = tie.close (tie.spec sub-if1 returns returns-2)

@@ -1,0 +1,32 @@
+// Clusters and their records: the leaves that every crate above is built of, the twelve bytes of a record, and the refusals.
+// Nothing public has a `requires`, and each `ensures` is one equation to a definition of `specs/`.
+//     is_inside, is_apart, size, is_single, highest, lowest     a cluster as 64 bits
+//     Refusal, Answer, number_of                                what is sent back
+//     Record, Rule, broken_rule, is_kept                        a record and its rules
+//     Reading, read_record, write_record                        twelve bytes to a record, and back
+//     RECORD_BYTES                                              how many bytes a record has
+mod bytes;
+mod leaves;
+mod reading;
+mod record;
+mod refusal;
+mod rule;
+mod writing;
+
+pub use leaves::highest;
+pub use leaves::is_apart;
+pub use leaves::is_inside;
+pub use leaves::is_single;
+pub use leaves::lowest;
+pub use leaves::size;
+pub use reading::Reading;
+pub use reading::read_record;
+pub use record::RECORD_BYTES;
+pub use record::Record;
+pub use refusal::Answer;
+pub use refusal::Refusal;
+pub use refusal::number_of;
+pub use rule::Rule;
+pub use rule::broken_rule;
+pub use rule::is_kept;
+pub use writing::write_record;

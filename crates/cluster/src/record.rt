@@ -1,0 +1,60 @@
+// A record and its twelve bytes, low byte first. Cites `specs/Record.antt`.
+//     RECORD_BYTES     how many bytes a record has
+//     Record           a cluster with its weight and state
+//     record_of        the record that twelve bytes hold
+//     has_spare        whether one of the last three isn't zero
+//     put_record       the bytes of a record, stored
+use crate::bytes::BYTE_VALUES;
+use crate::bytes::put_word;
+use crate::bytes::signed_of;
+use crate::bytes::unsigned_of;
+use crate::bytes::word_at;
+ghost use mathlib.Core.Path.{_≡_};
+ghost use mathlib.Core.List.{_++_};
+ghost use Prim.Native.Nat.{_≤_};
+ghost use lib.ListN.{length, drop};
+ghost use Rattle.cluster.specs.Record.{recordBytes, recordOf, hasSpare, bytesOf};
+
+// The bytes of a record, and where its weight and its state start; the spare bytes are the rest.
+pub const RECORD_BYTES: usize = 12;
+
+const WEIGHT_AT: usize = 4;
+
+const STATE_AT: usize = 8;
+
+// A cluster with its score: bit b of the cluster is taxon b, and a state of 0 says that the cluster is unscored.
+pub struct Record {
+    pub cluster: u32,
+    pub weight: i32,
+    pub state: u8,
+}
+
+// Whether a spare byte of a record is set: the word that starts with the state reaches past its low byte.
+pub(crate) fn has_spare(bytes: &[u8]) -> bool
+    requires { ⌜ length (now bytes) ≡ recordBytes ⌝ }
+    ensures { λ b. ⌜ b ≡ hasSpare (now (bytes .entry)) ⌝ }
+{
+    BYTE_VALUES <= word_at(bytes, STATE_AT)
+}
+
+// The record that twelve bytes hold, whether or not it keeps the rules.
+pub(crate) fn record_of(bytes: &[u8]) -> Record
+    requires { ⌜ length (now bytes) ≡ recordBytes ⌝ }
+    ensures { λ r. ⌜ r ≡ recordOf (now (bytes .entry)) ⌝ }
+{
+    Record {
+        cluster: word_at(bytes, 0),
+        weight: signed_of(word_at(bytes, WEIGHT_AT)),
+        state: bytes[STATE_AT],
+    }
+}
+
+// A record's bytes stored in the first twelve of a room.
+pub(crate) fn put_record(r: Record, room: &mut [u8])
+    requires { ⌜ recordBytes ≤ length (now room) ⌝ }
+    ensures { λ _. ⌜ now (room .exit) ≡ bytesOf r ++ drop recordBytes (now (room .entry)) ⌝ }
+{
+    put_word(room, 0, r.cluster);
+    put_word(room, WEIGHT_AT, unsigned_of(r.weight));
+    put_word(room, STATE_AT, r.state as u32);
+}

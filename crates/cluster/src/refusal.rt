@@ -1,0 +1,59 @@
+// What is sent back: the refusals and the answer of an operation. Cites `specs/Refusal.antt`.
+//     Refusal       the eleven refusals, in the order of their numbers
+//     Answer        a success or a refusal
+//     number_of     the paper's number of a refusal
+ghost use mathlib.Core.Path.{_≡_};
+ghost use Rattle.cluster.specs.Refusal.{numberOf};
+
+// Why an operation was refused. A case holds a position, from 0, where the paper has one.
+pub enum Refusal {
+    // 1: the list has no bytes.
+    NoBytes,
+    // 2: the length isn't a multiple of 12; for one record, isn't 12.
+    WrongLength,
+    // 3: the list is longer than its limit.
+    TooLong,
+    // 4: the degree bound is outside 3 to 5.
+    DegreeOut,
+    // 5: the record at this position is the first that breaks the record rules.
+    BadRecord(usize),
+    // 6: the cluster at this position is the first that repeats an earlier one.
+    Repeated(usize),
+    // 7: there is no tree on the leaf set.
+    NoTree,
+    // 8: the table isn't fit, or its marks aren't a tree of the best weight.
+    Unfit,
+    // 9: a rescoring names a cluster that has no row.
+    NoRow,
+    // 10: the weight and state of a rescoring break the record rules.
+    BadScore,
+    // 11: the output room is too short.
+    NoRoom,
+}
+
+// How an operation ended.
+pub enum Answer {
+    // It succeeded, and tells how many bytes or numbers it wrote; 0 where it tells nothing.
+    Done(usize),
+    // It was refused, and wrote nothing.
+    Refused(Refusal),
+}
+
+// The paper's number of a refusal, 1 to 11.
+pub fn number_of(refusal: Refusal) -> u64
+    ensures { λ n. ⌜ n ≡ numberOf refusal ⌝ }
+{
+    match refusal {
+        Refusal::NoBytes => 1,
+        Refusal::WrongLength => 2,
+        Refusal::TooLong => 3,
+        Refusal::DegreeOut => 4,
+        Refusal::BadRecord(_) => 5,
+        Refusal::Repeated(_) => 6,
+        Refusal::NoTree => 7,
+        Refusal::Unfit => 8,
+        Refusal::NoRow => 9,
+        Refusal::BadScore => 10,
+        Refusal::NoRoom => 11,
+    }
+}

@@ -1,0 +1,27 @@
+// One record written into a room. Cites `specs/Writing.antt`.
+//     write_record     a record to twelve bytes
+use crate::record::RECORD_BYTES;
+use crate::record::Record;
+use crate::record::put_record;
+use crate::refusal::Answer;
+use crate::refusal::Refusal;
+use crate::rule::broken_rule;
+use crate::rule::is_kept;
+ghost use mathlib.Core.Path.{_≡_};
+ghost use Rattle.cluster.specs.Writing.{wroteOf, writeRecord};
+
+// A record that keeps the rules, written into the first twelve bytes of a room; the answer tells twelve. Refused 5 for a record
+// that breaks a rule, then 11 for a shorter room, which is left as it was.
+pub fn write_record(r: Record, room: &mut [u8]) -> Answer
+    ensures { λ a. ⌜ wroteOf a (now (room .exit)) ≡ writeRecord r (now (room .entry)) ⌝ }
+{
+    let rule = broken_rule(r, false);
+    if !is_kept(rule) {
+        return Answer::Refused(Refusal::BadRecord(0));
+    }
+    if room.len() < RECORD_BYTES {
+        return Answer::Refused(Refusal::NoRoom);
+    }
+    put_record(r, room);
+    Answer::Done(RECORD_BYTES)
+}
