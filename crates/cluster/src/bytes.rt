@@ -1,4 +1,5 @@
 // Words of four bytes, low byte first, and the signed numbers that they stand for. Cites `specs/Bytes.antt`.
+//     BYTE_VALUES     how many values a byte has
 //     word_at         the number of the four bytes from a place
 //     put_word        a number stored as the four bytes from a place
 //     signed_of       the signed number of 32 bits in two's complement
@@ -13,11 +14,12 @@ ghost use mir.Val.{toZ, ofZ};
 ghost use Rattle.cluster.specs.Bytes.{wordBytes, numberAt, lowFirst};
 
 // How many values a byte has.
-pub const BYTE_VALUES: u32 = 256;
+pub(crate) const BYTE_VALUES: u32 = 256;
 
-// The first number of 32 bits that stands for a negative one, and the last, which stands for -1.
+// The first number of 32 bits that stands for a negative one.
 const FIRST_NEGATIVE: u32 = 2147483648;
 
+// The last number of 32 bits, which stands for -1.
 const MINUS_ONE: u32 = 4294967295;
 
 // The number of four bytes, low byte first.

@@ -38,7 +38,7 @@ pub fn size(c: u64) -> u32
 pub fn is_single(c: u64) -> bool
     ensures { λ r. ⌜ r ≡ single c ⌝ }
 {
-    u64::count_ones(c) == 1
+    size(c) == 1
 }
 
 // The largest taxon, 0 where there is none. Taxon 0 is put in, which changes the answer of no cluster and spares a branch.

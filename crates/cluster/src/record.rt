@@ -15,11 +15,13 @@ ghost use Prim.Native.Nat.{_≤_};
 ghost use lib.ListN.{length, drop};
 ghost use Rattle.cluster.specs.Record.{recordBytes, recordOf, hasSpare, bytesOf};
 
-// The bytes of a record, and where its weight and its state start; the spare bytes are the rest.
+// How many bytes a record has; the cluster stands first.
 pub const RECORD_BYTES: usize = 12;
 
+// Where the weight starts.
 const WEIGHT_AT: usize = 4;
 
+// Where the state stands; the spare bytes are the rest.
 const STATE_AT: usize = 8;
 
 // A cluster with its score: bit b of the cluster is taxon b, and a state of 0 says that the cluster is unscored.

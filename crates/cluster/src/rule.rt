@@ -6,11 +6,13 @@ use crate::record::Record;
 ghost use mathlib.Core.Path.{_≡_};
 ghost use Rattle.cluster.specs.Rule.{isState, inRange, unscoredWeight, brokenRule, isKept};
 
-// The two states, and the largest weight either way.
+// The state of a cluster without a score.
 const UNSCORED: u8 = 0;
 
+// The state of a cluster with a score.
 const SCORED: u8 = 1;
 
+// The largest weight, either way.
 const WEIGHT_MAX: i32 = 1000000;
 
 // The record rule that is broken first, in this order.

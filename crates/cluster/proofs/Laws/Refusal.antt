@@ -1,33 +1,48 @@
 -- What is sent back fixes the answer: the number and the position tell which refusal it was.
---     refusals p         every refusal in the paper's order, with p where it has a position
---     numbers, positions     what the table of document 01 has for each: an edit of `numberOf` or `positionOf` is refused here
---     sentOf-inj         equal things sent, equal answers
+--     answers n p      a success that tells n, then every refusal in the paper's order, with p where it has a position
+--     sent-table       the paper's number, position and what is told for each: an edit of the definitions is refused here
+--     sentOf-inj       equal things sent, equal answers
 -- Assumes nothing.
 use mathlib.Core.Path.{_≡_, refl, sym, ap, _∙_}
 use mathlib.Core.List.{List, [], _∷_, map}
-use Prim.Native.Nat.{ℕ, zero, suc}
+use Prim.Native.Nat.{ℕ}
 use lib.ListN.{getD}
 use Rattle.cluster.specs.declared.refusal.Answer.{Answer}
 use Rattle.cluster.specs.declared.refusal.Answer.the-variants.{Done, Refused}
 use Rattle.cluster.specs.declared.refusal.Refusal.{Refusal}
 use Rattle.cluster.specs.declared.refusal.Refusal.the-variants.{NoBytes, WrongLength, TooLong, DegreeOut, BadRecord, Repeated}
 use Rattle.cluster.specs.declared.refusal.Refusal.the-variants.{NoTree, Unfit, NoRow, BadScore, NoRoom}
-use Rattle.cluster.specs.Refusal.{numberOf, positionOf, Sent, sentOf}
+use Rattle.cluster.specs.Refusal.{Sent, sentOf}
 
-abbrev pub refusals : ℕ → List Refusal
+abbrev refusals : ℕ → List Refusal
 refusals p =
     NoBytes ∷ WrongLength ∷ TooLong ∷ DegreeOut ∷ BadRecord p ∷ Repeated p ∷ NoTree ∷ Unfit ∷ NoRow ∷ BadScore ∷ NoRoom ∷ []
 
-pub numbers : (p : ℕ) → map numberOf (refusals p) ≡ 1 ∷ 2 ∷ 3 ∷ 4 ∷ 5 ∷ 6 ∷ 7 ∷ 8 ∷ 9 ∷ 10 ∷ 11 ∷ []
-numbers p = refl
+abbrev pub answers : ℕ → ℕ → List Answer
+answers n p = Done n ∷ map Refused (refusals p)
 
-pub positions : (p : ℕ) → map positionOf (refusals p) ≡ 0 ∷ 0 ∷ 0 ∷ 0 ∷ p ∷ p ∷ 0 ∷ 0 ∷ 0 ∷ 0 ∷ 0 ∷ []
-positions p = refl
+abbrev pub row : ℕ → ℕ → ℕ → Sent
+row number position told = record { number = number; position = position; told = told }
 
--- the answer of what is sent: a success where the number is 0
+pub sent-table : (n p : ℕ) → map sentOf (answers n p)
+    ≡ row 0 0 n
+    ∷ row 1 0 0
+    ∷ row 2 0 0
+    ∷ row 3 0 0
+    ∷ row 4 0 0
+    ∷ row 5 p 0
+    ∷ row 6 p 0
+    ∷ row 7 0 0
+    ∷ row 8 0 0
+    ∷ row 9 0 0
+    ∷ row 10 0 0
+    ∷ row 11 0 0
+    ∷ []
+sent-table n p = refl
+
+-- the answer of what is sent: the number is its place
 answerOf : ℕ → ℕ → ℕ → Answer
-answerOf zero p n = Done n
-answerOf (suc m) p n = Refused (getD (refusals p) m NoBytes)
+answerOf m p n = getD (answers n p) m (Done 0)
 
 answerOf-sent : (a : Answer) → answerOf (sentOf a .number) (sentOf a .position) (sentOf a .told) ≡ a
 unfolding answerOf

@@ -1,12 +1,18 @@
--- `cluster::leaves::is_single` meets its contract: the code is the definition of `single`. Assumes nothing.
-use mathlib.Core.Path.{refl}
+-- `cluster::leaves::is_single` meets its contract: the size is compared with 1. Assumes nothing.
+use borrow.Author.Needs.{needs}
+use mathlib.Core.Path.{ap}
+use Prim.Native.Nat.{ℕ}
+use lib.Dec.{eqb}
 use Rattle.laws.specs.Cluster.{single}
 use Rattle.cluster.proofs.leaves.is_single.Statement.{statement}
 use Rattle.cluster.proofs.leaves.is_single.Tie as tie
 
+size-requires : tie.Need-size-requires
+size-requires c κs = search needs
+
 returns : tie.Need-returns
 unfolding single
-returns c = refl
+returns c = ap (λ (n : ℕ). eqb n 1) (c .size .ensures)
 
 pub is-single-spec : {M : Type 1} → statement M
-is-single-spec = tie.close (tie.spec returns)
+is-single-spec = tie.close (tie.spec size-requires returns)
