@@ -24,7 +24,7 @@ use lib.Dec.{T, eqb, eqb→eq, T-not, not-T}
 use lib.Pow.{pow-pos}
 use Rattle.laws.specs.Cluster.{inside, strict, apart, nested, unionOf}
 use Rattle.laws.specs.Lists.{every}
-use Rattle.laws.proofs.Tests.{T-and, and-T, T-or, or-l, or-r, eq→eqb}
+use Rattle.laws.proofs.Tests.{T-and, and-T, T-or, or-l, or-r, eq→eqb, neq→, →neq}
 use Rattle.laws.proofs.Keep.{every→}
 use Rattle.laws.proofs.Digits.{Has, has-ext, has-and, and-has, or-has, has-or-l, has-or-r, not-has-zero, has-pow, pow-has, has-lt, has-of-nonzero, xor-digit}
 
@@ -169,10 +169,10 @@ rest-union a b h = omega (arith, union-apart a b h)
 -- ---- strictly inside, nested
 
 pub strict→ : (a b : ℕ) → T (strict a b) → T (inside a b) × (a ≢ b)
-strict→ a b h = let q = T-and (inside a b) (not (eqb a b)) h in (q .0, λ e. T-not (eqb a b) (q .1) (eq→eqb a b e))
+strict→ a b h = let q = T-and (inside a b) (not (eqb a b)) h in (q .0, neq→ a b (q .1))
 
 pub →strict : (a b : ℕ) → T (inside a b) → a ≢ b → T (strict a b)
-→strict a b h n = and-T (inside a b) (not (eqb a b)) h (not-T (eqb a b) (λ k. n (eqb→eq a b k)))
+→strict a b h n = and-T (inside a b) (not (eqb a b)) h (→neq a b n)
 
 pub data Nest (a b : ℕ) : Type 0 where
   below : T (inside a b) → Nest a b

@@ -17,9 +17,10 @@ use lib.Dec.{T, eqb, eqb→eq, T-not}
 use lib.ListN.{length}
 use Rattle.laws.specs.Cluster.{inside, apart, nested, size}
 use Rattle.laws.specs.Lists.{keep, Once}
-use Rattle.laws.proofs.Tests.{T-and, T-dec, eq→eqb}
+use Rattle.laws.proofs.Tests.{T-and, neq→}
 use Rattle.laws.proofs.Digits.{Has, or-has}
 use Rattle.laws.proofs.Keep.{mem-of-keep, keep-none}
+use Rattle.laws.proofs.Largest.{Top, none, at, top}
 use Rattle.laws.proofs.KeepCount.{length-keep-split}
 use Rattle.laws.proofs.Once.{once-keep, once-length-le}
 use Rattle.laws.proofs.Cluster.{inside→, →inside, apart→, le-of-inside, inside-refl, union-rest}
@@ -37,33 +38,6 @@ count-measure L o = record {
   none = λ S f. ap length (keep-none S L f);
   one = λ S c f. once-length-le (keep S L) (c ∷ []) (once-keep S L o) (λ x m. here (f x (mem-of-keep S L m .1)));
 }
-
--- ---- the largest number of a list that passes a test
-
-data Top (p : ℕ → Bool) (L : List ℕ) : Type 0 where
-  empty : ((x : ℕ) → Mem x L → T (p x) → ⊥) → Top p L
-  at : (k : ℕ) → Mem k L → T (p k) → ((x : ℕ) → Mem x L → T (p x) → x ≤ k) → Top p L
-
-all-cons : (P : ℕ → Type 0) (y : ℕ) (ys : List ℕ) → P y → ((x : ℕ) → Mem x ys → P x) → (x : ℕ) → Mem x (y ∷ ys) → P x
-all-cons P y ys h f x (here e) = subst P (sym e) h
-all-cons P y ys h f x (there m) = f x m
-
-top : (p : ℕ → Bool) (L : List ℕ) → Top p L
-top p [] = empty (λ x m. absurd (mem-nil m))
-top p (y ∷ ys) = go (T-dec (p y)) (top p ys)
-  where
-    Under : ℕ → ℕ → Type 0
-    Under k x = T (p x) → x ≤ k
-
-    pick : T (p y) → (k : ℕ) → Mem k ys → T (p k) → ((x : ℕ) → Mem x ys → Under k x) → Dec (y ≤ k) → Top p (y ∷ ys)
-    pick t k m h f (yes l) = at k (there m) h (all-cons (Under k) y ys (λ _. l) f)
-    pick t k m h f (no n) = at y (here refl) t (all-cons (Under y) y ys (λ _. le-refl y) (λ x j i. omega (arith, f x j i)))
-
-    go : T (p y) ⊎ (T (p y) → ⊥) → Top p ys → Top p (y ∷ ys)
-    go (inl t) (empty f) = at y (here refl) t (all-cons (Under y) y ys (λ _. le-refl y) (λ x m h. absurd (f x m h)))
-    go (inl t) (at k m h f) = pick t k m h f (decLe y k)
-    go (inr n) (empty f) = empty (all-cons (λ (x : ℕ). T (p x) → ⊥) y ys n f)
-    go (inr n) (at k m h f) = at k (there m) h (all-cons (Under k) y ys (λ t. absurd (n t)) f)
 
 -- ---- families that nest
 
@@ -101,7 +75,7 @@ module _ (L : List ℕ) (μ : (ℕ → Bool) → ℕ) (M : ℕ) (measure : Measu
 
     low→ : (c : ℕ) → T (low c) → T (S c) × (c ≢ C)
     unfolding low
-    low→ c h = let q = T-and (S c) (not (eqb c C)) h in (q .0, λ e. T-not (eqb c C) (q .1) (eq→eqb c C e))
+    low→ c h = let q = T-and (S c) (not (eqb c C)) h in (q .0, neq→ c C (q .1))
 
     top-le : μ S ≤ M + μ low
     unfolding low
@@ -145,8 +119,8 @@ module _ (L : List ℕ) (μ : (ℕ → Bool) → ℕ) (M : ℕ) (measure : Measu
   small-step C n small S l = go (top (low C S l) L)
     where
       go : Top (low C S l) L → μ S + M ≤ 2 * M * size C
-      go (empty f) = low-none C S l n (λ c h. f c (l .listed c (low→ C S l c h .0)) h)
-      go (at k m t f) = two-parts C S l k t f small
+      go (none f) = low-none C S l n (λ c h. f c (l .listed c (low→ C S l c h .0)) h)
+      go (at q) = two-parts C S l (q .number) (q .passes) (q .most) small
 
   -- by the size of the cluster
   small-all : (n C : ℕ) → size C ≤ n → C ≢ 0 → Small C

@@ -20,6 +20,8 @@ pub mod Falling
 pub mod KeepCount
 -- how many sublists have a given number of elements
 pub mod Choose
+-- the largest number of a list that passes a test
+pub mod Largest
 -- families of clusters that nest: how large they can be
 pub mod Laminar
 -- lists of clusters with the largest first

@@ -2,14 +2,17 @@
 --     T-and, and-T, T-or, or-l, or-r     conjunction and disjunction, out of and into
 --     T-dec             a test passes or doesn't
 --     T-true, T-false   a test that passes, or can't, as an equation
+--     true-T            and back
 --     bool-ext          tests that pass together are equal
+--     or-split          a test is itself with a second test, or without it
 --     eq→eqb            equal numbers pass the test of equality
+--     neq→, →neq        different numbers, out of the test and into it
 -- Assumes nothing.
 use mathlib.Core.Path.{_≡_, refl, sym, subst}
-use mathlib.Core.Logic.{_⊎_, inl, inr}
+use mathlib.Core.Logic.{_⊎_, inl, inr, _≢_}
 use mathlib.Core.Bool.{Bool, true, false, not, _&&_, _||_}
 use Prim.Native.Nat.{ℕ}
-use lib.Dec.{T, eqb, eqb-refl}
+use lib.Dec.{T, eqb, eqb→eq, eqb-refl, T-not, not-T}
 
 pub T-and : (a b : Bool) → T (a && b) → T a × T b
 T-and true b h = (tt, h)
@@ -41,8 +44,19 @@ bool-ext true false f g = absurd (f tt)
 bool-ext false true f g = absurd (g tt)
 bool-ext false false f g = refl
 
+pub or-split : (a b : Bool) → (a && b || a && not b) ≡ a
+or-split true true = refl
+or-split true false = refl
+or-split false b = refl
+
 pub eq→eqb : (m n : ℕ) → m ≡ n → T (eqb m n)
 eq→eqb m n e = subst (λ (x : ℕ). T (eqb m x)) e (eqb-refl m)
+
+pub neq→ : (m n : ℕ) → T (not (eqb m n)) → m ≢ n
+neq→ m n h e = T-not (eqb m n) h (eq→eqb m n e)
+
+pub →neq : (m n : ℕ) → m ≢ n → T (not (eqb m n))
+→neq m n f = not-T (eqb m n) (λ h. f (eqb→eq m n h))
 
 pub T-true : (b : Bool) → T b → b ≡ true
 T-true true h = refl

@@ -1,25 +1,37 @@
 -- The trees of the children of one tuple, joined: a family cut along clusters that are apart is a tree inside each of them.
---     Right C ts          the list ts holds the trees on C, each once
---     AllApart τ          the clusters of a tuple are pairwise apart
---     combos τ            one tree out of each child's list, joined, in every way
---     Cut τ U             U is a tree inside each child, and has no member elsewhere
+--     TreeEntry           an entry whose value is a list of families
+--     Right G C ts        the list ts holds the trees on C, each once
+--     EachRight G τ        each entry's list holds the trees on its cluster
+--     combos G τ          one tree out of each child's list, joined, in every way
+--     Holder τ c          a child that c lies inside
+--     Cut G τ U           U is a tree inside each child, and has no member elsewhere
+--     cut-listed          the members of a cut are listed
 --     combos→, →combos    the joins are the cuts
 --     combos-once         and none repeats
 -- Assumes nothing.
-use mathlib.Core.Path.{_≡_, refl, sym, ap, ap₂, _∙_, subst, fun-ext}
-use mathlib.Core.Logic.{_⊎_, inl, inr, _≢_}
-use mathlib.Core.Bool.{Bool, true, false, not, _&&_, _||_}
-use mathlib.Core.List.{List, [], _∷_, map, Memᴰ·of-map}
+use mathlib.Core.Path.{_≡_, refl, sym, ap, _∙_, subst}
+use mathlib.Core.Logic.{_⊎_, inl, inr}
+use mathlib.Core.Bool.{Bool, not, _&&_, _||_}
+use mathlib.Core.List.{List, [], _∷_, map, Memᴰ·map, Memᴰ·of-map}
 use mathlib.Core.List.{List·Memᴰ as Mem, List·Memᴰ·head as here, List·Memᴰ·tail as there, List·Memᴰ·not-nil as mem-nil}
-use Prim.Native.Nat.{ℕ, _^_, _<_}
-use lib.Dec.{T, eqb, T-not, not-T}
+use Prim.Native.Nat.{ℕ}
+use lib.Dec.{T, T-not, not-T}
 use Rattle.laws.specs.Cluster.{inside, apart}
 use Rattle.laws.specs.Lists.{Once}
-use Rattle.laws.proofs.Tests.{T-and, and-T, T-or, or-l, or-r, T-dec}
+use Rattle.laws.proofs.Tests.{T-and, and-T, T-or}
 use Rattle.laws.proofs.Once.{once-map, once-bind}
 use Rattle.trees.specs.Rows.{Entry, cl}
+use Rattle.trees.specs.Tuple.{allApart}
 use Rattle.trees.proofs.Families.{Fam, fam-ext, join, empty, restrict, outside, cross, mem-cross, mem-of-cross}
+use Rattle.trees.proofs.Families.{join-only-l, join-only-r, restrict-join-r, restrict-outside, join-parts}
 use Rattle.trees.proofs.TreeFacts.{Given, Tree, clash}
+use Rattle.trees.proofs.Tuples.{apart-first, apart-rest}
+
+abbrev pub TreeEntry : Type 0
+TreeEntry = Entry (List Fam)
+
+abbrev pub Holder : List TreeEntry → ℕ → Type 0
+Holder τ c = (e : TreeEntry) × Mem e τ × T (inside c (cl e))
 
 module _ (G : Given) where
   -- the list holds the trees on C, each once
@@ -28,143 +40,113 @@ module _ (G : Given) where
     pub complete : (S : Fam) → Tree G C S → Mem S ts
     pub once : Once ts
 
-  abbrev pub AllApart : List (Entry (List Fam)) → Type 0
-  AllApart [] = Unit {0}
-  AllApart (e ∷ τ) = ((e′ : Entry (List Fam)) → Mem e′ τ → T (apart (cl e) (cl e′))) × AllApart τ
+  abbrev pub EachRight : List TreeEntry → Type 0
+  EachRight τ = (e : TreeEntry) → Mem e τ → Right (cl e) (e .val)
 
-  abbrev pub combos : List (Entry (List Fam)) → List Fam
+  abbrev pub combos : List TreeEntry → List Fam
   combos [] = empty ∷ []
   combos (e ∷ τ) = cross (e .val) (combos τ)
 
-  pub record Cut (τ : List (Entry (List Fam))) (U : Fam) : Type 0 where
-    pub parts : (e : Entry (List Fam)) → Mem e τ → Tree G (cl e) (restrict U (cl e))
-    pub held : (c : ℕ) → T (U c) → (e : Entry (List Fam)) × Mem e τ × T (inside c (cl e))
+  pub record Cut (τ : List TreeEntry) (U : Fam) : Type 0 where
+    pub parts : (e : TreeEntry) → Mem e τ → Tree G (cl e) (restrict U (cl e))
+    pub held : (c : ℕ) → T (U c) → Holder τ c
 
-  cut-listed : (τ : List (Entry (List Fam))) (U : Fam) → Cut τ U → (c : ℕ) → T (U c) → Mem c (G .listed)
+  pub cut-listed : (τ : List TreeEntry) (U : Fam) → Cut τ U → (c : ℕ) → T (U c) → Mem c (G .listed)
   cut-listed τ U h c u = let q = h .held c u in h .parts (q .0) (q .1) .listed c (and-T (U c) (inside c (cl (q .0))) u (q .2))
 
-  -- two parts: one inside X, the other held by clusters apart from X
-  module _ (e : Entry (List Fam)) (τ : List (Entry (List Fam))) (ap′ : (e′ : Entry (List Fam)) → Mem e′ τ → T (apart (cl e) (cl e′))) where
-    left : (S W : Fam) → Tree G (cl e) S → Cut τ W → restrict (join S W) (cl e) ≡ S
-    left S W h k = fam-ext (restrict (join S W) (cl e)) S to from
-      where
-        to : (c : ℕ) → T ((S c || W c) && inside c (cl e)) → T (S c)
-        to c x = go (T-or (S c) (W c) (T-and (S c || W c) (inside c (cl e)) x .0))
-          where
-            go : T (S c) ⊎ T (W c) → T (S c)
-            go (inl s) = s
-            go (inr v) = let q = k .held c v in absurd (clash G c (cl e) (cl (q .0)) (cut-listed τ W k c v) (ap′ (q .0) (q .1)) (T-and (S c || W c) (inside c (cl e)) x .1) (q .2))
+  -- ---- one child more, apart from the others
+  module _ (e : TreeEntry) (τ : List TreeEntry) (away : (x : TreeEntry) → Mem x τ → T (apart (cl e) (cl x))) where
+    -- a tree S on the child and a cut U along the others
+    module _ (S U : Fam) (tree : Tree G (cl e) S) (cut : Cut τ U) where
+      not-inside : (c : ℕ) → T (U c) → T (inside c (cl e)) → ⊥
+      not-inside c u i =
+          let q = cut .held c u in
+          clash G c (cl e) (cl (q .0)) (cut-listed τ U cut c u) (away (q .0) (q .1)) i (q .2)
 
-        from : (c : ℕ) → T (S c) → T ((S c || W c) && inside c (cl e))
-        from c s = and-T (S c || W c) (inside c (cl e)) (or-l (S c) (W c) s) (h .within c s)
+      child-part : restrict (join S U) (cl e) ≡ S
+      child-part = join-only-l (λ c. inside c (cl e)) S U (tree .within) not-inside
 
-    right : (S W : Fam) → Tree G (cl e) S → Cut τ W → (e′ : Entry (List Fam)) → Mem e′ τ → restrict (join S W) (cl e′) ≡ restrict W (cl e′)
-    right S W h k e′ m = fam-ext (restrict (join S W) (cl e′)) (restrict W (cl e′)) to from
-      where
-        to : (c : ℕ) → T ((S c || W c) && inside c (cl e′)) → T (W c && inside c (cl e′))
-        to c x = and-T (W c) (inside c (cl e′)) (go (T-or (S c) (W c) (T-and (S c || W c) (inside c (cl e′)) x .0))) (T-and (S c || W c) (inside c (cl e′)) x .1)
-          where
-            go : T (S c) ⊎ T (W c) → T (W c)
-            go (inl s) = absurd (clash G c (cl e) (cl e′) (h .listed c s) (ap′ e′ m) (h .within c s) (T-and (S c || W c) (inside c (cl e′)) x .1))
-            go (inr v) = v
+      other-part : (x : TreeEntry) → Mem x τ → restrict (join S U) (cl x) ≡ restrict U (cl x)
+      other-part x m = restrict-join-r S U (cl x) (λ c s i. clash G c (cl e) (cl x) (tree .listed c s) (away x m) (tree .within c s) i)
 
-        from : (c : ℕ) → T (W c && inside c (cl e′)) → T ((S c || W c) && inside c (cl e′))
-        from c x = let q = T-and (W c) (inside c (cl e′)) x in and-T (S c || W c) (inside c (cl e′)) (or-r (S c) (W c) (q .0)) (q .1)
+      rest-part : outside (join S U) (cl e) ≡ U
+      rest-part =
+          join-only-r (λ c. not (inside c (cl e))) S U (λ c s n. T-not (inside c (cl e)) n (tree .within c s))
+          (λ c u. not-T (inside c (cl e)) (not-inside c u))
 
-    join-cut : (S W : Fam) → Tree G (cl e) S → Cut τ W → Cut (e ∷ τ) (join S W)
-    join-cut S W h k = record { parts = ps; held = hs }
-      where
-        ps : (e′ : Entry (List Fam)) → Mem e′ (e ∷ τ) → Tree G (cl e′) (restrict (join S W) (cl e′))
-        ps e′ (here q) = subst (λ (x : Entry (List Fam)). Tree G (cl x) (restrict (join S W) (cl x))) (sym q) (subst (Tree G (cl e)) (sym (left S W h k)) h)
-        ps e′ (there m) = subst (Tree G (cl e′)) (sym (right S W h k e′ m)) (k .parts e′ m)
+      join-cut : Cut (e ∷ τ) (join S U)
+      join-cut = record { parts = parts; held = λ c h. held c (T-or (S c) (U c) h) }
+        where
+          parts : (x : TreeEntry) → Mem x (e ∷ τ) → Tree G (cl x) (restrict (join S U) (cl x))
+          parts x (here q) = rw q (subst (Tree G (cl e)) (sym child-part) tree)
+          parts x (there m) = subst (Tree G (cl x)) (sym (other-part x m)) (cut .parts x m)
 
-        hs : (c : ℕ) → T (S c || W c) → (e′ : Entry (List Fam)) × Mem e′ (e ∷ τ) × T (inside c (cl e′))
-        hs c x = go (T-or (S c) (W c) x)
-          where
-            go : T (S c) ⊎ T (W c) → (e′ : Entry (List Fam)) × Mem e′ (e ∷ τ) × T (inside c (cl e′))
-            go (inl s) = (e, here refl, h .within c s)
-            go (inr v) = let q = k .held c v in (q .0, there (q .1), q .2)
-
-    rest : (S W : Fam) → Tree G (cl e) S → Cut τ W → outside (join S W) (cl e) ≡ W
-    rest S W h k = fam-ext (outside (join S W) (cl e)) W to from
-      where
-        to : (c : ℕ) → T ((S c || W c) && not (inside c (cl e))) → T (W c)
-        to c x = go (T-or (S c) (W c) (T-and (S c || W c) (not (inside c (cl e))) x .0))
-          where
-            go : T (S c) ⊎ T (W c) → T (W c)
-            go (inl s) = absurd (T-not (inside c (cl e)) (T-and (S c || W c) (not (inside c (cl e))) x .1) (h .within c s))
-            go (inr v) = v
-
-        from : (c : ℕ) → T (W c) → T ((S c || W c) && not (inside c (cl e)))
-        from c v = and-T (S c || W c) (not (inside c (cl e))) (or-r (S c) (W c) v)
-            (not-T (inside c (cl e)) (λ i. let q = k .held c v in clash G c (cl e) (cl (q .0)) (cut-listed τ W k c v) (ap′ (q .0) (q .1)) i (q .2)))
+          held : (c : ℕ) → T (S c) ⊎ T (U c) → Holder (e ∷ τ) c
+          held c (inl s) = (e, here refl, tree .within c s)
+          held c (inr u) = let q = cut .held c u in (q .0, there (q .1), q .2)
 
     split-cut : (U : Fam) → Cut (e ∷ τ) U → Cut τ (outside U (cl e))
-    split-cut U h = record { parts = ps; held = hs }
+    split-cut U cut = record { parts = parts; held = held }
       where
-        ps : (e′ : Entry (List Fam)) → Mem e′ τ → Tree G (cl e′) (restrict (outside U (cl e)) (cl e′))
-        ps e′ m = subst (Tree G (cl e′)) (fam-ext (restrict U (cl e′)) (restrict (outside U (cl e)) (cl e′)) to from) (h .parts e′ (there m))
-          where
-            to : (c : ℕ) → T (U c && inside c (cl e′)) → T ((U c && not (inside c (cl e))) && inside c (cl e′))
-            to c x = let q = T-and (U c) (inside c (cl e′)) x in
-                and-T (U c && not (inside c (cl e))) (inside c (cl e′)) (and-T (U c) (not (inside c (cl e))) (q .0) (not-T (inside c (cl e)) (λ i. clash G c (cl e) (cl e′) (cut-listed (e ∷ τ) U h c (q .0)) (ap′ e′ m) i (q .1)))) (q .1)
+        parts : (x : TreeEntry) → Mem x τ → Tree G (cl x) (restrict (outside U (cl e)) (cl x))
+        parts x m =
+            subst (Tree G (cl x))
+            (restrict-outside U (cl e) (cl x) (λ c u i j. clash G c (cl e) (cl x) (cut-listed (e ∷ τ) U cut c u) (away x m) i j))
+            (cut .parts x (there m))
 
-            from : (c : ℕ) → T ((U c && not (inside c (cl e))) && inside c (cl e′)) → T (U c && inside c (cl e′))
-            from c x = let q = T-and (U c && not (inside c (cl e))) (inside c (cl e′)) x in and-T (U c) (inside c (cl e′)) (T-and (U c) (not (inside c (cl e))) (q .0) .0) (q .1)
+        not-first : (c : ℕ) (x : TreeEntry) → T (not (inside c (cl e))) → T (inside c (cl x)) → Mem x (e ∷ τ) → Holder τ c
+        not-first c x n i (here q) = absurd (T-not (inside c (cl e)) n (subst (λ (y : TreeEntry). T (inside c (cl y))) q i))
+        not-first c x n i (there m) = (x, m, i)
 
-        hs : (c : ℕ) → T (U c && not (inside c (cl e))) → (e′ : Entry (List Fam)) × Mem e′ τ × T (inside c (cl e′))
-        hs c x = let q = T-and (U c) (not (inside c (cl e))) x in go (q .1) (h .held c (q .0))
-          where
-            go1 : (e′ : Entry (List Fam)) → T (not (inside c (cl e))) → T (inside c (cl e′)) → Mem e′ (e ∷ τ) → (e′ : Entry (List Fam)) × Mem e′ τ × T (inside c (cl e′))
-            go1 e′ n i (here q) = absurd (T-not (inside c (cl e)) n (subst (λ (x : Entry (List Fam)). T (inside c (cl x))) q i))
-            go1 e′ n i (there m) = (e′, m, i)
+        held : (c : ℕ) → T (outside U (cl e) c) → Holder τ c
+        held c h =
+            let q = T-and (U c) (not (inside c (cl e))) h in
+            let p = cut .held c (q .0) in
+            not-first c (p .0) (q .1) (p .2) (p .1)
 
-            go : T (not (inside c (cl e))) → (e′ : Entry (List Fam)) × Mem e′ (e ∷ τ) × T (inside c (cl e′)) → (e′ : Entry (List Fam)) × Mem e′ τ × T (inside c (cl e′))
-            go n p = go1 (p .0) n (p .2) (p .1)
+  first-away : (e : TreeEntry) (τ : List TreeEntry) → T (allApart (map cl (e ∷ τ))) → (x : TreeEntry) → Mem x τ → T (apart (cl e) (cl x))
+  first-away e τ a x m = apart-first (cl e) (map cl τ) a (cl x) (Memᴰ·map cl m)
 
-    whole : (U : Fam) → join (restrict U (cl e)) (outside U (cl e)) ≡ U
-    whole U = fam-ext (join (restrict U (cl e)) (outside U (cl e))) U to from
-      where
-        to : (c : ℕ) → T (U c && inside c (cl e) || U c && not (inside c (cl e))) → T (U c)
-        to c x = go (T-or (U c && inside c (cl e)) (U c && not (inside c (cl e))) x)
-          where
-            go : T (U c && inside c (cl e)) ⊎ T (U c && not (inside c (cl e))) → T (U c)
-            go (inl y) = T-and (U c) (inside c (cl e)) y .0
-            go (inr y) = T-and (U c) (not (inside c (cl e))) y .0
-
-        from : (c : ℕ) → T (U c) → T (U c && inside c (cl e) || U c && not (inside c (cl e)))
-        from c u = go (T-dec (inside c (cl e)))
-          where
-            go : T (inside c (cl e)) ⊎ (T (inside c (cl e)) → ⊥) → T (U c && inside c (cl e) || U c && not (inside c (cl e)))
-            go (inl i) = or-l (U c && inside c (cl e)) (U c && not (inside c (cl e))) (and-T (U c) (inside c (cl e)) u i)
-            go (inr i) = or-r (U c && inside c (cl e)) (U c && not (inside c (cl e))) (and-T (U c) (not (inside c (cl e))) u (not-T (inside c (cl e)) i))
-
-  pub combos→ : (τ : List (Entry (List Fam))) → AllApart τ → ((e : Entry (List Fam)) → Mem e τ → Right (cl e) (e .val)) → (U : Fam) → Mem U (combos τ) → Cut τ U
-  combos→ [] a r U (here q) = record { parts = λ e m. absurd (mem-nil m); held = λ c u. absurd (subst (λ (S : Fam). T (S c)) q u) }
+  pub combos→ : (τ : List TreeEntry) → T (allApart (map cl τ)) → EachRight τ → (U : Fam) → Mem U (combos τ) → Cut τ U
+  combos→ [] a r U (here q) =
+      record { parts = λ e m. absurd (mem-nil m); held = λ c u. absurd (subst (λ (S : Fam). T (S c)) q u) }
   combos→ [] a r U (there m) = absurd (mem-nil m)
   combos→ (e ∷ τ) a r U m =
       let q = mem-of-cross (e .val) (combos τ) m in
-      subst (Cut (e ∷ τ)) (q .4) (join-cut e τ (a .0) (q .0) (q .1) (r e (here refl) .sound (q .0) (q .2)) (combos→ τ (a .1) (λ x k. r x (there k)) (q .1) (q .3)))
+      let rest = combos→ τ (apart-rest (cl e) (map cl τ) a) (λ x k. r x (there k)) (q .1) (q .3) in
+      subst (Cut (e ∷ τ)) (q .4) (join-cut e τ (first-away e τ a) (q .0) (q .1) (r e (here refl) .sound (q .0) (q .2)) rest)
 
-  pub →combos : (τ : List (Entry (List Fam))) → AllApart τ → ((e : Entry (List Fam)) → Mem e τ → Right (cl e) (e .val)) → (U : Fam) → Cut τ U → Mem U (combos τ)
+  pub →combos : (τ : List TreeEntry) → T (allApart (map cl τ)) → EachRight τ → (U : Fam) → Cut τ U → Mem U (combos τ)
   →combos [] a r U h = here (fam-ext U empty (λ c u. absurd (mem-nil (h .held c u .1))) (λ c u. absurd u))
   →combos (e ∷ τ) a r U h =
-      subst (λ (S : Fam). Mem S (cross (e .val) (combos τ))) (whole e τ (a .0) U)
+      subst (λ (S : Fam). Mem S (cross (e .val) (combos τ))) (join-parts U (cl e))
       (mem-cross (e .val) (combos τ) (r e (here refl) .complete (restrict U (cl e)) (h .parts e (here refl)))
-      (→combos τ (a .1) (λ x k. r x (there k)) (outside U (cl e)) (split-cut e τ (a .0) U h)))
+      (→combos τ (apart-rest (cl e) (map cl τ) a) (λ x k. r x (there k)) (outside U (cl e)) (split-cut e τ (first-away e τ a) U h)))
 
-  pub combos-once : (τ : List (Entry (List Fam))) → AllApart τ → ((e : Entry (List Fam)) → Mem e τ → Right (cl e) (e .val)) → Once (combos τ)
+  pub combos-once : (τ : List TreeEntry) → T (allApart (map cl τ)) → EachRight τ → Once (combos τ)
   combos-once [] a r = (mem-nil, tt)
   combos-once (e ∷ τ) a r =
-      once-bind (λ (x : Fam). map (λ (y : Fam). join x y) (combos τ)) (e .val) (r e (here refl) .once)
-      (λ x m. once-map (λ (y : Fam). join x y) (combos τ) (combos-once τ (a .1) (λ z k. r z (there k)))
-      (λ y y′ k k′ q. sym (rest e τ (a .0) x y (r e (here refl) .sound x m) (tail y k)) ∙ ap (λ (S : Fam). outside S (cl e)) q ∙ rest e τ (a .0) x y′ (r e (here refl) .sound x m) (tail y′ k′)))
-      (λ x x′ S m m′ k k′.
-      let p = Memᴰ·of-map (λ (y : Fam). join x y) (combos τ) k in
-      let q = Memᴰ·of-map (λ (y : Fam). join x′ y) (combos τ) k′ in
-      sym (left e τ (a .0) x (p .0) (r e (here refl) .sound x m) (tail (p .0) (p .1)))
-      ∙ ap (λ (S : Fam). restrict S (cl e)) (p .2 ∙ sym (q .2))
-      ∙ left e τ (a .0) x′ (q .0) (r e (here refl) .sound x′ m′) (tail (q .0) (q .1)))
+      once-bind (λ (S : Fam). map (join S) (combos τ)) (e .val) (r e (here refl) .once)
+      (λ S m. once-map (join S) (combos τ) (combos-once τ (apart-rest (cl e) (map cl τ) a) (λ x k. r x (there k))) (same-rest S m))
+      same-child
     where
-      tail : (y : Fam) → Mem y (combos τ) → Cut τ y
-      tail y k = combos→ τ (a .1) (λ z k. r z (there k)) y k
+      sound : (S : Fam) → Mem S (e .val) → Tree G (cl e) S
+      sound = r e (here refl) .sound
+
+      cut : (U : Fam) → Mem U (combos τ) → Cut τ U
+      cut = combos→ τ (apart-rest (cl e) (map cl τ) a) (λ x k. r x (there k))
+
+      same-rest : (S : Fam) → Mem S (e .val) → (U W : Fam) → Mem U (combos τ) → Mem W (combos τ) → join S U ≡ join S W → U ≡ W
+      same-rest S m U W j k q =
+          sym (rest-part e τ (first-away e τ a) S U (sound S m) (cut U j))
+          ∙ ap (λ (X : Fam). outside X (cl e)) q
+          ∙ rest-part e τ (first-away e τ a) S W (sound S m) (cut W k)
+
+      same-child : (S S′ X : Fam) → Mem S (e .val) → Mem S′ (e .val) → Mem X (map (join S) (combos τ)) → Mem X (map (join S′) (combos τ))
+          → S ≡ S′
+      same-child S S′ X m m′ j k =
+          let p = Memᴰ·of-map (join S) (combos τ) j in
+          let q = Memᴰ·of-map (join S′) (combos τ) k in
+          sym (child-part e τ (first-away e τ a) S (p .0) (sound S m) (cut (p .0) (p .1)))
+          ∙ ap (λ (Y : Fam). restrict Y (cl e)) (p .2 ∙ sym (q .2))
+          ∙ child-part e τ (first-away e τ a) S′ (q .0) (sound S′ m′) (cut (q .0) (q .1))

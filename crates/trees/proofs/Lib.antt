@@ -9,6 +9,14 @@ pub mod Kind
 pub mod TreeFacts
 -- the trees of the children of a tuple, joined
 pub mod Cuts
+-- the rows beneath a row, and a tuple of them
+pub mod Beneath
+-- a one-taxon cluster has one tree
+pub mod SingleTree
+-- the tree that a tuple and a cut make
+pub mod JoinTree
+-- every tree has its tuple
+pub mod TreeTuple
 -- the trees of a row
 pub mod RowTrees
 -- rows that fall, and the rows of a table

@@ -1,13 +1,13 @@
 -- A tree as facts about a family, and the children of a member.
 --     Given               what a question about trees is asked of: width, degree bound, and the listed scored clusters
---     kid, kids           the children of a member
+--     over, kid, kids     a member between two; a child, and the children of a member
 --     Tree G C S          the family S is a tree on C
 --     kids-local          what lies inside a member decides its children
---     kid→, →kid          a child, as facts
+--     KidOf, kid→, →kid   a child, as facts
 --     clash               no listed cluster lies inside two that are apart
 -- Assumes nothing.
-use mathlib.Core.Path.{_≡_, refl, sym, ap, ap₂, _∙_, subst, fun-ext}
-use mathlib.Core.Logic.{_⊎_, inl, inr, _≢_}
+use mathlib.Core.Path.{_≡_, refl, ap, ap₂}
+use mathlib.Core.Logic.{_≢_}
 use mathlib.Core.Bool.{Bool, true, false, not, _&&_, _||_}
 use mathlib.Core.List.{List, List·Memᴰ as Mem}
 use Prim.Native.Nat.{ℕ, _-_, _^_, _<_}
@@ -61,20 +61,32 @@ module _ (G : Given) where
       (λ h. ap not (some-ext (λ (l : ℕ). S l && (strict l m && strict k l)) (λ (l : ℕ). U l && (strict l m && strict k l)) (G .listed)
       (λ l _. agree (S l) (U l) (strict l m) (strict k l) (strict k l) (λ j. f l (strict→ l m j .0)) (λ j. refl)))))
 
-  pub kid→ : (S : Fam) (m k : ℕ) → T (kid S m k) → T (S k) × T (strict k m) × ((l : ℕ) → Mem l (G .listed) → T (S l) → T (strict l m) → T (strict k l) → ⊥)
+  -- k is a member strictly inside m, and no member lies between
+  abbrev pub KidOf : Fam → ℕ → ℕ → Type 0
+  KidOf S m k = T (S k) × T (strict k m) × ((l : ℕ) → Mem l (G .listed) → T (S l) → T (strict l m) → T (strict k l) → ⊥)
+
+  pub kid→ : (S : Fam) (m k : ℕ) → T (kid S m k) → KidOf S m k
   kid→ S m k h =
       let p = T-and (S k) (strict k m && not (over S m k)) h in
       let q = T-and (strict k m) (not (over S m k)) (p .1) in
-      (p .0, q .0, λ l m′ a b c. T-not (over S m k) (q .1) (→some (λ (l : ℕ). S l && (strict l m && strict k l)) (G .listed) m′ (and-T (S l) (strict l m && strict k l) a (and-T (strict l m) (strict k l) b c))))
+      (p .0, q .0, λ l j a b c. T-not (over S m k) (q .1) (between l j a b c))
+    where
+      between : (l : ℕ) → Mem l (G .listed) → T (S l) → T (strict l m) → T (strict k l) → T (over S m k)
+      between l j a b c =
+          →some (λ (x : ℕ). S x && (strict x m && strict k x)) (G .listed) j
+          (and-T (S l) (strict l m && strict k l) a (and-T (strict l m) (strict k l) b c))
 
-  pub →kid : (S : Fam) (m k : ℕ) → T (S k) → T (strict k m) → ((l : ℕ) → Mem l (G .listed) → T (S l) → T (strict l m) → T (strict k l) → ⊥) → T (kid S m k)
+  pub →kid : (S : Fam) (m k : ℕ) → T (S k) → T (strict k m)
+      → ((l : ℕ) → Mem l (G .listed) → T (S l) → T (strict l m) → T (strict k l) → ⊥) → T (kid S m k)
   →kid S m k a b f =
-      and-T (S k) (strict k m && not (over S m k)) a (and-T (strict k m) (not (over S m k)) b
-      (not-T (over S m k) (λ h.
-      let q = some→ (λ (l : ℕ). S l && (strict l m && strict k l)) (G .listed) h in
-      let r = T-and (S (q .0)) (strict (q .0) m && strict k (q .0)) (q .2) in
-      let s = T-and (strict (q .0) m) (strict k (q .0)) (r .1) in
-      f (q .0) (q .1) (r .0) (s .0) (s .1))))
+      and-T (S k) (strict k m && not (over S m k)) a (and-T (strict k m) (not (over S m k)) b (not-T (over S m k) none))
+    where
+      none : T (over S m k) → ⊥
+      none h =
+          let q = some→ (λ (l : ℕ). S l && (strict l m && strict k l)) (G .listed) h in
+          let r = T-and (S (q .0)) (strict (q .0) m && strict k (q .0)) (q .2) in
+          let s = T-and (strict (q .0) m) (strict k (q .0)) (r .1) in
+          f (q .0) (q .1) (r .0) (s .0) (s .1)
 
   pub clash : (c a b : ℕ) → Mem c (G .listed) → T (apart a b) → T (inside c a) → T (inside c b) → ⊥
   clash c a b m h i j = G .sound c m .0 (zero-of-apart c (apart-of-inside a b c c h i j))

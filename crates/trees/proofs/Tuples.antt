@@ -1,5 +1,6 @@
 -- What it says to be a tuple, as facts, and what follows at once.
 --     TupleFacts, tuple→, →tuple     the test as a record, out of it and into it
+--     apart-first, apart-rest        the first of clusters that are pairwise apart, and the others
 --     apart-of-tuple                 two parts of a tuple are one part, or apart
 --     apart-all                      pairwise apart, from a list that doesn't repeat
 --     part-inside, part-other        a part lies inside the whole, and isn't the whole
@@ -48,7 +49,7 @@ pub →tuple : (d C : ℕ) (cs : List ℕ) → TupleFacts d C cs → T (isTuple 
 
 -- ---- pairwise apart
 
-apart-first : (c : ℕ) (cs : List ℕ) → T (allApart (c ∷ cs)) → (x : ℕ) → Mem x cs → T (apart c x)
+pub apart-first : (c : ℕ) (cs : List ℕ) → T (allApart (c ∷ cs)) → (x : ℕ) → Mem x cs → T (apart c x)
 apart-first c cs h x m = every→ (λ (y : ℕ). apart c y) cs (T-and (every (λ (y : ℕ). apart c y) cs) (allApart cs) h .0) x m
 
 pub apart-rest : (c : ℕ) (cs : List ℕ) → T (allApart (c ∷ cs)) → T (allApart cs)
