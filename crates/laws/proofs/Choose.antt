@@ -9,7 +9,6 @@
 --     fewFour, few-four      few n 4, in steps that compute
 -- Assumes nothing.
 use mathlib.Core.Path.{_≡_, refl, sym, ap, ap₂, _∙_, subst}
-use mathlib.Core.Logic.{_≢_}
 use mathlib.Core.Bool.{Bool, not, _&&_}
 use mathlib.Core.List.{List, [], _∷_, List·Memᴰ as Mem}
 use Prim.Native.Nat.{ℕ, zero, suc, _+_, _-_, _≤_}
@@ -17,13 +16,13 @@ use native.Mathlib.Decide.{ℕ-discrete}
 use native.Mathlib.Nat.{le-refl, le-trans}
 use native.Mathlib.Omega.{arith}
 use lib.Arith.{le-zero}
-use lib.Dec.{T, eqb, eqb·zero-suc, eqb·suc-zero, eqb·suc-suc, T-not}
+use lib.Dec.{T, eqb, eqb·zero-suc, eqb·suc-zero, eqb·suc-suc}
 use lib.ListN.{length, length-append, length-map}
 use Rattle.laws.specs.Lists.{keep, every, sublists}
-use Rattle.laws.proofs.Tests.{T-and, and-T, bool-ext, eq→eqb}
-use Rattle.laws.proofs.Keep.{keep-append, keep-map, keep-none, keep-ext, every→, →every}
+use Rattle.laws.proofs.Tests.{T-and, and-T, bool-ext, neq→}
+use Rattle.laws.proofs.Keep.{keep-none, keep-ext, every→, →every}
 use Rattle.laws.proofs.KeepCount.{length-keep-split, length-keep-and-le, length-keep-lt}
-use Rattle.laws.proofs.Sublists.{sublists-drop}
+use Rattle.laws.proofs.Sublists.{keep-sublists-cons, sublists-drop}
 
 unfoldable pub choose : ℕ → ℕ → ℕ
 choose n zero = 1
@@ -92,7 +91,7 @@ few-four n = let r = row-is n in omega arith
 module _ {A : Type 0} where
   count-cons : (p : List A → Bool) (x : A) (xs : List A)
       → length (keep p (sublists (x ∷ xs))) ≡ length (keep p (sublists xs)) + length (keep (λ (s : List A). p (x ∷ s)) (sublists xs))
-  count-cons p x xs = simp (keep-append, keep-map, length-append, length-map)
+  count-cons p x xs = simp (keep-sublists-cons, length-append, length-map)
 
   pub sublists-count : (l : List A) (k : ℕ) → length (keep (λ (s : List A). eqb (length s) k) (sublists l)) ≡ choose (length l) k
   unfolding choose
@@ -101,7 +100,7 @@ module _ {A : Type 0} where
   sublists-count (x ∷ xs) zero =
       count-cons (λ (s : List A). eqb (length s) 0) x xs
       ∙ ap₂ (λ (m : ℕ) (l : List (List A)). m + length l) (sublists-count xs 0)
-      (keep-none (λ (s : List A). eqb (suc (length s)) 0) (sublists xs) (λ s h. subst T (eqb·suc-zero (length s)) h))
+      (keep-none (λ (s : List A). eqb (suc (length s)) 0) (sublists xs) (λ s _ h. subst T (eqb·suc-zero (length s)) h))
   sublists-count (x ∷ xs) (suc k) =
       let longer : List A → Bool = λ s. eqb (suc (length s)) (suc k) in
       let e = keep-ext longer (λ (s : List A). eqb (length s) k) (sublists xs) (λ s _. eqb·suc-suc (length s) k) in
@@ -114,8 +113,8 @@ module _ {A : Type 0} where
   Sized p m = (s : List A) → T (p s) → (2 ≤ length s) × (length s ≤ m)
 
   pub few-le : (p : List A → Bool) (m : ℕ) → Sized p m → (l : List A) → length (keep p (sublists l)) ≤ few (length l) m
-  few-le p zero f l = rw (keep-none p (sublists l) (λ s h. omega (arith, f s h))) (le-refl 0)
-  few-le p (suc zero) f l = rw (keep-none p (sublists l) (λ s h. omega (arith, f s h))) (le-refl 0)
+  few-le p zero f l = rw (keep-none p (sublists l) (λ s _ h. omega (arith, f s h))) (le-refl 0)
+  few-le p (suc zero) f l = rw (keep-none p (sublists l) (λ s _ h. omega (arith, f s h))) (le-refl 0)
   few-le p (suc (suc m)) f l =
       let h = length-keep-and-le p full (sublists l) in
       omega (arith, length-keep-split p full (sublists l), sublists-count l (suc (suc m)), few-le rest (suc m) less l)
@@ -130,7 +129,7 @@ module _ {A : Type 0} where
       less s h =
           let q = T-and (p s) (not (full s)) h in
           let k = f s (q .0) in
-          let n : length s ≢ suc (suc m) = λ e. T-not (full s) (q .1) (eq→eqb (length s) (suc (suc m)) e) in
+          let n = neq→ (length s) (suc (suc m)) (q .1) in
           (k .0, omega arith)
 
   -- x is in no sublist that passes: the test q, which x fails, passes what is in one

@@ -1,54 +1,37 @@
 -- Inside, apart, union, and what is left of a cluster without a part of it. All that the proofs about trees know of clusters is here
 -- and in `Taxa.antt`.
---     inside→, →inside, apart→, →apart       taxon by taxon, out of the test and into it
---     inside-of-has, has-of-inside           one taxon inside, as a digit
---     inside-refl, inside-trans, inside-antisym, le-of-inside, zero-inside, zero-of-inside
---     apart-sym, apart-zero, apart-of-inside, apart-union, zero-of-apart
---     inside-union-l, inside-union-r, union-inside, taxon-of-union, union-apart, union-lt
---     inside-of-taxa, taxon-of-nonzero       by the taxa of a width
---     rest-apart, rest-inside, union-rest    R less a part of it
---     strict→, →strict, Nest, nested→, →nested
---     unionOf-…                              unions of lists
+--     inside→, →inside, apart→, →apart, inside-of-has, has-of-inside     passed on from `Inside.antt`
+--     inside-refl, inside-trans, inside-antisym     inside is an order
+--     le-of-inside                           a part is no larger a number
+--     zero-inside, zero-of-inside            nothing is inside every cluster, and has nothing else inside
+--     inside-of-taxa, taxon-nonzero          inside, by the taxa of a width; a taxon isn't nothing
+--     apart-sym, apart-zero, zero-of-apart   apart either way; nothing is apart from all, and nothing else from itself
+--     apart-of-inside, apart-union           parts of what is apart are apart, and so is a union of such
+--     inside-union-l, inside-union-r, union-inside, taxon-of-union     into a union, out of it, and a union inside
+--     union-apart, union-lt                  a union of what is apart is the sum; below e, if both are below e and apart from it
+--     rest-apart, rest-inside, union-rest, rest-union      R less a part of it, and a union less one of the two
+--     strict→, →strict, Nest, nested→, →nested      strictly inside, and nested or apart, out of the test and into it
+--     apart-unionOf, inside-unionOf, unionOf-inside, taxon-of-unionOf, unionOf-lt      the same of unions of lists
+--     two-parts                              a union of clusters other than the union has two at least
 -- Assumes nothing.
 use mathlib.Core.Path.{_≡_, refl, sym, ap, ap₂, _∙_, subst, subst₂}
 use mathlib.Core.Logic.{_⊎_, inl, inr, _≢_}
-use mathlib.Core.Bool.{Bool, not, _&&_, _||_}
+use mathlib.Core.Bool.{not, _||_}
 use mathlib.Core.List.{List, [], _∷_, List·Memᴰ as Mem, List·Memᴰ·head as here, List·Memᴰ·tail as there}
-use Prim.Native.Nat.{ℕ, zero, suc, _+_, _-_, _*_, _/_, _^_, _≤_, _<_, zero-le, suc-le-suc}
+use Prim.Native.Nat.{ℕ, _+_, _-_, _/_, _^_, _≤_, _<_, zero-le, suc-le-suc}
 use native.Mathlib.Decide.{ℕ-discrete}
 use native.Mathlib.Omega.{arith}
 use lib.Arith.{bin-ind}
 use lib.Bits.{bitAnd, bitOr, bitXor, and-shr, or-shr, or-zero-r, and-le-r, and-comm, xor-add-and, or-disjoint}
 use lib.ListN.{length}
-use lib.Dec.{T, eqb, eqb→eq, T-not, not-T}
+use lib.Dec.{T, eqb, eqb→eq}
 use lib.Pow.{pow-pos}
 use Rattle.laws.specs.Cluster.{inside, strict, apart, nested, unionOf}
 use Rattle.laws.specs.Lists.{every}
 use Rattle.laws.proofs.Tests.{T-and, and-T, T-or, or-l, or-r, eq→eqb, neq→, →neq}
-use Rattle.laws.proofs.Keep.{every→}
-use Rattle.laws.proofs.Digits.{Has, has-ext, has-and, and-has, or-has, has-or-l, has-or-r, not-has-zero, has-pow, pow-has, has-lt, has-of-nonzero, xor-digit}
-
-pub inside→ : (a b : ℕ) → T (inside a b) → (t : ℕ) → Has a t → Has b t
-unfolding inside
-inside→ a b h t x = and-has a b t (subst (λ (n : ℕ). Has n t) (sym (eqb→eq (bitAnd a b) a h)) x) .1
-
-pub →inside : (a b : ℕ) → ((t : ℕ) → Has a t → Has b t) → T (inside a b)
-unfolding inside
-→inside a b f = eq→eqb _ _ (has-ext (bitAnd a b) a (λ t x. and-has a b t x .0) (λ t x. has-and a b t x (f t x)))
-
-pub apart→ : (a b : ℕ) → T (apart a b) → (t : ℕ) → Has a t → Has b t → ⊥
-unfolding apart
-apart→ a b h t x y = not-has-zero t (subst (λ (n : ℕ). Has n t) (eqb→eq (bitAnd a b) 0 h) (has-and a b t x y))
-
-pub →apart : (a b : ℕ) → ((t : ℕ) → Has a t → Has b t → ⊥) → T (apart a b)
-unfolding apart
-→apart a b f = eq→eqb _ _ (has-ext (bitAnd a b) 0 (λ t x. absurd (f t (and-has a b t x .0) (and-has a b t x .1))) (λ t x. absurd (not-has-zero t x)))
-
-pub inside-of-has : (t c : ℕ) → Has c t → T (inside (2 ^ t) c)
-inside-of-has t c h = →inside (2 ^ t) c (λ s k. subst (Has c) (sym (pow-has t s k)) h)
-
-pub has-of-inside : (t c : ℕ) → T (inside (2 ^ t) c) → Has c t
-has-of-inside t c h = inside→ (2 ^ t) c h t (has-pow t)
+pub use Rattle.laws.proofs.Inside.{inside→, →inside, apart→, →apart, inside-of-has, has-of-inside}
+use Rattle.laws.proofs.Digits.{Has, has-ext, or-has, has-or-l, has-or-r, not-has-zero}
+use Rattle.laws.proofs.Digits.{has-lt, xor-digit}
 
 pub inside-refl : (a : ℕ) → T (inside a a)
 inside-refl a = →inside a a (λ t x. x)
@@ -99,9 +82,6 @@ taxon-of-union t a b h = go (or-has a b t (has-of-inside t (bitOr a b) h))
 pub inside-of-taxa : (w a b : ℕ) → a < 2 ^ w → ((t : ℕ) → t < w → T (inside (2 ^ t) a) → T (inside (2 ^ t) b)) → T (inside a b)
 inside-of-taxa w a b h f = →inside a b (λ t x. has-of-inside t b (f t (has-lt w a t h x) (inside-of-has t a x)))
 
-pub taxon-of-nonzero : (w a : ℕ) → a < 2 ^ w → a ≢ 0 → (t : ℕ) × (t < w) × T (inside (2 ^ t) a)
-taxon-of-nonzero w a h n = let p : (t : ℕ) × (t < w) × Has a t = has-of-nonzero w a h n in (p .0, p .1, inside-of-has (p .0) a (p .2))
-
 pub zero-inside : (c : ℕ) → T (inside 0 c)
 unfolding inside
 zero-inside c = tt
@@ -148,17 +128,20 @@ or-half x y = or-shr x y 1
 
 pub union-lt : (e x y : ℕ) → T (apart e x) → T (apart e y) → x < e → y < e → bitOr x y < e
 union-lt =
-    bin-ind (λ (e : ℕ). (x y : ℕ) → T (apart e x) → T (apart e y) → x < e → y < e → bitOr x y < e)
-    (λ x y a b l m. absurd (omega arith))
-    (λ e ih x y a b l m. go e x y a b l m (ℕ-discrete (e / 2) 0) (λ n. ih (x / 2) (y / 2) (half-apart e x a) (half-apart e y b) (half-less x e a l n) (half-less y e b m n)))
+    bin-ind Under (λ x y a b l m. absurd (omega arith)) (λ e ih x y a b l m.
+    go e x y l m (ℕ-discrete (e / 2) 0)
+    (λ n. ih (x / 2) (y / 2) (half-apart e x a) (half-apart e y b) (half-less x e a l n) (half-less y e b m n)))
   where
-    go : (e x y : ℕ) → T (apart e x) → T (apart e y) → x < e → y < e → Dec (e / 2 ≡ 0) → (e / 2 ≢ 0 → bitOr (x / 2) (y / 2) < e / 2) → bitOr x y < e
-    go e x y a b l m (yes q) ih =
-        let xz : 0 ≡ x = omega arith in
-        let yz : 0 ≡ y = omega arith in
-        let z : 0 < e = omega arith in
-        subst₂ (λ (u v : ℕ). bitOr u v < e) xz yz z
-    go e x y a b l m (no n) ih = omega (arith, ih n, or-half x y)
+    Under : ℕ → Type 0
+    Under e = (x y : ℕ) → T (apart e x) → T (apart e y) → x < e → y < e → bitOr x y < e
+
+    go : (e x y : ℕ) → x < e → y < e → Dec (e / 2 ≡ 0) → (e / 2 ≢ 0 → bitOr (x / 2) (y / 2) < e / 2) → bitOr x y < e
+    go e x y l m (yes q) ih =
+        let x-zero : 0 ≡ x = omega arith in
+        let y-zero : 0 ≡ y = omega arith in
+        let pos : 0 < e = omega arith in
+        subst₂ (λ (u v : ℕ). bitOr u v < e) x-zero y-zero pos
+    go e x y l m (no n) ih = omega (arith, ih n, or-half x y)
 
 pub rest-inside : (c R : ℕ) → T (inside c R) → T (inside (R - c) R)
 rest-inside c R h = subst (λ (x : ℕ). T (inside (R - c) x)) (union-rest c R h) (inside-union-r c (R - c))
@@ -209,13 +192,16 @@ apart-zero c = →apart c 0 (λ t x y. not-has-zero t y)
 
 pub apart-unionOf : (c : ℕ) (cs : List ℕ) → T (every (λ (x : ℕ). apart c x) cs) → T (apart c (unionOf cs))
 apart-unionOf c [] h = apart-zero c
-apart-unionOf c (x ∷ xs) h = let q = T-and (apart c x) (every (λ (z : ℕ). apart c z) xs) h in apart-union c x (unionOf xs) (q .0) (apart-unionOf c xs (q .1))
+apart-unionOf c (x ∷ xs) h =
+    let q = T-and (apart c x) (every (λ (z : ℕ). apart c z) xs) h in
+    apart-union c x (unionOf xs) (q .0) (apart-unionOf c xs (q .1))
 
 -- ---- unions of lists
 
 pub inside-unionOf : (cs : List ℕ) (c : ℕ) → Mem c cs → T (inside c (unionOf cs))
 inside-unionOf (x ∷ xs) c (here e) = subst (λ (y : ℕ). T (inside y (bitOr x (unionOf xs)))) (sym e) (inside-union-l x (unionOf xs))
-inside-unionOf (x ∷ xs) c (there m) = inside-trans c (unionOf xs) (bitOr x (unionOf xs)) (inside-unionOf xs c m) (inside-union-r x (unionOf xs))
+inside-unionOf (x ∷ xs) c (there m) =
+    inside-trans c (unionOf xs) (bitOr x (unionOf xs)) (inside-unionOf xs c m) (inside-union-r x (unionOf xs))
 
 pub unionOf-inside : (cs : List ℕ) (X : ℕ) → ((c : ℕ) → Mem c cs → T (inside c X)) → T (inside (unionOf cs) X)
 unionOf-inside [] X f = zero-inside X
@@ -225,7 +211,10 @@ pub taxon-of-unionOf : (cs : List ℕ) (t : ℕ) → T (inside (2 ^ t) (unionOf 
 taxon-of-unionOf [] t h = absurd (taxon-nonzero t (zero-of-inside (2 ^ t) h))
 taxon-of-unionOf (c ∷ cs) t h = go (taxon-of-union t c (unionOf cs) h) (λ k. taxon-of-unionOf cs t k)
   where
-    go : T (inside (2 ^ t) c) ⊎ T (inside (2 ^ t) (unionOf cs)) → (T (inside (2 ^ t) (unionOf cs)) → (x : ℕ) × Mem x cs × T (inside (2 ^ t) x)) → (x : ℕ) × Mem x (c ∷ cs) × T (inside (2 ^ t) x)
+    In : List ℕ → Type 0
+    In l = (x : ℕ) × Mem x l × T (inside (2 ^ t) x)
+
+    go : T (inside (2 ^ t) c) ⊎ T (inside (2 ^ t) (unionOf cs)) → (T (inside (2 ^ t) (unionOf cs)) → In cs) → In (c ∷ cs)
     go (inl i) r = (c, here refl, i)
     go (inr i) r = let q = r i in (q .0, there (q .1), q .2)
 
@@ -235,7 +224,8 @@ two-parts (c ∷ []) C e n f = absurd (f c (here refl) (sym (or-zero-r c) ∙ e)
 two-parts (c ∷ c′ ∷ cs) C e n f = suc-le-suc (suc-le-suc zero-le)
 
 -- clusters below e and apart from it have a union below it
-pub unionOf-lt : (e : ℕ) → 0 < e → (cs : List ℕ) → ((c : ℕ) → Mem c cs → T (apart e c) × (c < e)) → T (apart e (unionOf cs)) × (unionOf cs < e)
+pub unionOf-lt : (e : ℕ) → 0 < e → (cs : List ℕ) → ((c : ℕ) → Mem c cs → T (apart e c) × (c < e))
+    → T (apart e (unionOf cs)) × (unionOf cs < e)
 unionOf-lt e p [] f = (apart-zero e, p)
 unionOf-lt e p (c ∷ cs) f =
     let h = f c (here refl) in

@@ -3,8 +3,8 @@
 --     descends-first       the first is larger than every other
 --     descends-pos         each is more than 0
 --     descends-map-keep    what a filter leaves falls too
---     descends-once       none stands there twice
---     descends-of-falling from a list that falls and has no 0
+--     falling-of-descends, descends-of-falling     a list that falls, and has no 0
+--     descends-once        none stands there twice
 -- Assumes nothing.
 use mathlib.Core.Path.{refl}
 use mathlib.Core.Logic.{_≢_}
@@ -14,7 +14,7 @@ use mathlib.Core.List.{List·Memᴰ as Mem, List·Memᴰ·head as here, List·Me
 use Prim.Native.Nat.{ℕ, zero, suc, _<_}
 use native.Mathlib.Omega.{arith}
 use Rattle.laws.specs.Lists.{keepIf, keep, Once}
-use Rattle.laws.proofs.Falling.{Falling}
+use Rattle.laws.proofs.Falling.{Falling, falling-once}
 use Rattle.laws.proofs.Keep.{mem-of-keep}
 
 -- the first of some clusters, and the others
@@ -30,9 +30,12 @@ pub descends-pos : (cs : List ℕ) → Descends cs → (c : ℕ) → Mem c cs �
 descends-pos (x ∷ xs) h c (here e) = omega (arith, h .0 .nonzero)
 descends-pos (x ∷ xs) h c (there m) = descends-pos xs (h .1) c m
 
+pub falling-of-descends : (cs : List ℕ) → Descends cs → Falling cs
+falling-of-descends [] h = tt
+falling-of-descends (c ∷ cs) h = (h .0 .larger, falling-of-descends cs (h .1))
+
 pub descends-once : (cs : List ℕ) → Descends cs → Once cs
-descends-once [] h = tt
-descends-once (c ∷ cs) h = (λ m. omega (arith, h .0 .larger c m), descends-once cs (h .1))
+descends-once cs h = falling-once cs (falling-of-descends cs h)
 
 module _ {A : Type 0} (f : A → ℕ) where
   pub descends-first : (x : A) (xs : List A) → Descends (map f (x ∷ xs)) → (y : A) → Mem y xs → f y < f x

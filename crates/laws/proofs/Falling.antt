@@ -1,14 +1,15 @@
 -- Lists of numbers that fall strictly, and sublists of numbers as the tests of their members.
 --     Falling l            each number of l is larger than all that follow
 --     falling-once         such a list has no number twice
+--     falling-above        what stands in front of a number is larger
 --     elem-keep            membership in a filtered list is the test
 --     sublist-is-elem      a sublist keeps its members
 --     sublist-trans        a sublist of a sublist is a sublist
 -- Assumes nothing.
-use mathlib.Core.Path.{_≡_, sym, ap, _∙_, subst}
+use mathlib.Core.Path.{_≡_, refl, sym, ap, _∙_, subst}
 use mathlib.Core.Bool.{Bool, _&&_}
-use mathlib.Core.List.{List, [], _∷_}
-use mathlib.Core.List.{List·Memᴰ as Mem}
+use mathlib.Core.List.{List, [], _∷_, _++_, Memᴰ·append-right}
+use mathlib.Core.List.{List·Memᴰ as Mem, List·Memᴰ·head as here, List·Memᴰ·tail as there}
 use Prim.Native.Nat.{ℕ, _<_}
 use native.Mathlib.Omega.{arith}
 use lib.Dec.{T}
@@ -25,6 +26,10 @@ Falling (c ∷ cs) = ((x : ℕ) → Mem x cs → x < c) × Falling cs
 pub falling-once : (cs : List ℕ) → Falling cs → Once cs
 falling-once [] f = tt
 falling-once (c ∷ cs) f = (λ m. omega (arith, f .0 c m), falling-once cs (f .1))
+
+pub falling-above : (up : List ℕ) (c : ℕ) (cs : List ℕ) → Falling (up ++ (c ∷ cs)) → (a : ℕ) → Mem a up → c < a
+falling-above (x ∷ up) c cs f a (here e) = rw e (f .0 c (Memᴰ·append-right up (here refl)))
+falling-above (x ∷ up) c cs f a (there m) = falling-above up c cs (f .1) a m
 
 pub elem-keep : (p : ℕ → Bool) (l : List ℕ) (c : ℕ) → (T (p c) → Mem c l) → elem c (keep p l) ≡ p c
 elem-keep p l c f =

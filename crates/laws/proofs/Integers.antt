@@ -13,7 +13,7 @@ use mathlib.Core.Bool.{Bool, true, false}
 use Prim.Native.Nat.{ℕ, suc, _+_, _≤_, _<_}
 use native.Mathlib.Decide.{decLe}
 use native.Mathlib.Omega.{arith}
-use lib.Dec.{T, eqb, eqb→eq, eqb-refl, ltb, leb, ltb→lt, lt→ltb, leb→le, le→leb}
+use lib.Dec.{T, eqb, eqb→eq, eqb-refl, ltb, ltb→lt, lt→ltb, leb→le, le→leb}
 use lib.IntN.{ℤ, pos, negsuc, natAbs, subℕ, _+ℤ_, +ℤ-comm, +ℤ-assoc}
 use lib.Signed.{mag, leZ, ltZ}
 use borrow.Author.Tests.{ltb-true, ltb-false}

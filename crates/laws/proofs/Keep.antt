@@ -3,11 +3,15 @@
 --     every→, →every, some→, →some, elem→, →elem     a test of a list, as a statement about its elements
 --     mem-bind, mem-of-bind           into the lists of `bind`, and out of them
 --     keep-ext, some-ext              equal tests
---     keep-keep, some-keep, keep-map, keep-append, keep-none, keep-none-mem, keep-all, keep-swap, length-keep-le
+--     keep-keep, some-keep            a filter after a filter, and a test after it
+--     keep-swap                       two filters, in either order
+--     keep-append, keep-map           a filter of two lists one behind the other, and of images
+--     keep-none, keep-all             no element passes, or all do
+--     length-keep-le                  a filter leaves no more elements than there are
 -- Assumes nothing.
 use mathlib.Core.Path.{_≡_, refl, sym, ap, ap₂, _∙_, subst}
-use mathlib.Core.Logic.{_⊎_, inl, inr, _≢_}
-use mathlib.Core.Bool.{Bool, true, false, not, _&&_, _||_}
+use mathlib.Core.Logic.{_⊎_, inl, inr}
+use mathlib.Core.Bool.{Bool, true, false, _&&_, _||_}
 use mathlib.Core.List.{List, [], _∷_, _++_, map, Memᴰ·append-left, Memᴰ·append-right, List·Memᴰ·append-cases, Memᴰ·cast}
 use mathlib.Core.List.{List·Memᴰ as Mem, List·Memᴰ·head as here, List·Memᴰ·tail as there, List·Memᴰ·not-nil as mem-nil}
 use Prim.Native.Nat.{ℕ, suc, _≤_, zero-le, suc-le-suc}
@@ -15,7 +19,7 @@ use native.Mathlib.Nat.{le-suc, le-trans}
 use lib.Dec.{T, eqb, eqb→eq}
 use lib.ListN.{length}
 use Rattle.laws.specs.Lists.{keepIf, keep, every, some, elem, bind}
-use Rattle.laws.proofs.Tests.{T-and, and-T, T-or, or-l, or-r, T-true, T-false, eq→eqb}
+use Rattle.laws.proofs.Tests.{T-and, and-T, T-or, or-l, or-r, T-true, T-false, true-T, eq→eqb}
 
 module _ {A : Type 0} where
   pub mem-keep : (p : A → Bool) (l : List A) {x : A} → Mem x l → T (p x) → Mem x (keep p l)
@@ -32,14 +36,14 @@ module _ {A : Type 0} where
 
   pub mem-of-keep : (p : A → Bool) (l : List A) {x : A} → Mem x (keep p l) → Mem x l × T (p x)
   mem-of-keep p [] m = absurd (mem-nil m)
-  mem-of-keep p (y ∷ ys) {x} m = go (p y) refl m (λ m′. mem-of-keep p ys m′)
+  mem-of-keep p (y ∷ ys) {x} m = go (p y) refl m (λ k. mem-of-keep p ys k)
     where
-      cs : p y ≡ true → Mem x (y ∷ keep p ys) → (Mem x (keep p ys) → Mem x ys × T (p x)) → Mem x (y ∷ ys) × T (p x)
-      cs e (here q) r = (here q, subst (λ (z : A). T (p z)) (sym q) (subst T (sym e) tt))
-      cs e (there k) r = let h = r k in (there (h .0), h .1)
+      kept : p y ≡ true → Mem x (y ∷ keep p ys) → (Mem x (keep p ys) → Mem x ys × T (p x)) → Mem x (y ∷ ys) × T (p x)
+      kept e (here q) r = (here q, subst (λ (z : A). T (p z)) (sym q) (true-T e))
+      kept e (there k) r = let h = r k in (there (h .0), h .1)
 
       go : (b : Bool) → p y ≡ b → Mem x (keepIf b y (keep p ys)) → (Mem x (keep p ys) → Mem x ys × T (p x)) → Mem x (y ∷ ys) × T (p x)
-      go true e k r = cs e k r
+      go true e k r = kept e k r
       go false e k r = let h = r k in (there (h .0), h .1)
 
   pub every→ : (p : A → Bool) (l : List A) → T (every p l) → (x : A) → Mem x l → T (p x)
@@ -74,7 +78,10 @@ module _ {A : Type 0} where
   keep-keep p q [] = refl
   keep-keep p q (x ∷ xs) = go (q x) (keep-keep p q xs)
     where
-      go : (b : Bool) → keep p (keep q xs) ≡ keep (λ (x : A). q x && p x) xs → keep p (keepIf b x (keep q xs)) ≡ keepIf (b && p x) x (keep (λ (x : A). q x && p x) xs)
+      both : List A
+      both = keep (λ (y : A). q y && p y) xs
+
+      go : (b : Bool) → keep p (keep q xs) ≡ both → keep p (keepIf b x (keep q xs)) ≡ keepIf (b && p x) x both
       go true e = ap (λ (r : List A). keepIf (p x) x r) e
       go false e = e
 
@@ -82,7 +89,10 @@ module _ {A : Type 0} where
   some-keep p q [] = refl
   some-keep p q (x ∷ xs) = go (q x) (some-keep p q xs)
     where
-      go : (b : Bool) → some p (keep q xs) ≡ some (λ (x : A). q x && p x) xs → some p (keepIf b x (keep q xs)) ≡ (b && p x || some (λ (x : A). q x && p x) xs)
+      both : Bool
+      both = some (λ (y : A). q y && p y) xs
+
+      go : (b : Bool) → some p (keep q xs) ≡ both → some p (keepIf b x (keep q xs)) ≡ (b && p x || both)
       go true e = ap (λ (r : Bool). p x || r) e
       go false e = e
 
@@ -94,17 +104,10 @@ module _ {A : Type 0} where
       go true e = ap (λ (r : List A). x ∷ r) e
       go false e = e
 
-  pub keep-none : (p : A → Bool) (l : List A) → ((x : A) → T (p x) → ⊥) → keep p l ≡ []
+  pub keep-none : (p : A → Bool) (l : List A) → ((x : A) → Mem x l → T (p x) → ⊥) → keep p l ≡ []
   keep-none p [] f = refl
-  keep-none p (x ∷ xs) f = go (p x) refl (keep-none p xs f)
-    where
-      go : (b : Bool) → p x ≡ b → keep p xs ≡ [] → keepIf b x (keep p xs) ≡ []
-      go true e r = absurd (f x (subst T (sym e) tt))
-      go false e r = r
-
-  pub keep-none-mem : (p : A → Bool) (l : List A) → ((x : A) → Mem x l → T (p x) → ⊥) → keep p l ≡ []
-  keep-none-mem p [] f = refl
-  keep-none-mem p (x ∷ xs) f = ap₂ (λ (b : Bool) (r : List A). keepIf b x r) (T-false (p x) (f x (here refl))) (keep-none-mem p xs (λ y m. f y (there m)))
+  keep-none p (x ∷ xs) f =
+      ap₂ (λ (b : Bool) (r : List A). keepIf b x r) (T-false (p x) (f x (here refl))) (keep-none p xs (λ y m. f y (there m)))
 
   pub keep-all : (p : A → Bool) (l : List A) → ((x : A) → Mem x l → T (p x)) → keep p l ≡ l
   keep-all p [] f = refl
@@ -133,7 +136,10 @@ module _ {A B : Type 0} where
   keep-map g p [] = refl
   keep-map g p (x ∷ xs) = go (p (g x)) (keep-map g p xs)
     where
-      go : (b : Bool) → keep p (map g xs) ≡ map g (keep (λ (x : A). p (g x)) xs) → keepIf b (g x) (keep p (map g xs)) ≡ map g (keepIf b x (keep (λ (x : A). p (g x)) xs))
+      kept : List A
+      kept = keep (λ (y : A). p (g y)) xs
+
+      go : (b : Bool) → keep p (map g xs) ≡ map g kept → keepIf b (g x) (keep p (map g xs)) ≡ map g (keepIf b x kept)
       go true e = ap (λ (r : List B). g x ∷ r) e
       go false e = e
 

@@ -4,13 +4,12 @@
 --     Laminar L C S      the family S of clusters of L inside C nests
 --     laminar-le         it measures at most M (2 size C - 1), by any measure
 -- Assumes nothing.
-use mathlib.Core.Path.{_≡_, refl, sym, ap, subst}
+use mathlib.Core.Path.{_≡_, sym, ap, subst}
 use mathlib.Core.Logic.{_⊎_, inl, inr, _≢_}
 use mathlib.Core.Bool.{Bool, not, _&&_}
 use mathlib.Core.List.{List, [], _∷_}
-use mathlib.Core.List.{List·Memᴰ as Mem, List·Memᴰ·head as here, List·Memᴰ·tail as there, List·Memᴰ·not-nil as mem-nil}
+use mathlib.Core.List.{List·Memᴰ as Mem, List·Memᴰ·head as here}
 use Prim.Native.Nat.{ℕ, zero, suc, _+_, _-_, _*_, _≤_, _<_}
-use native.Mathlib.Decide.{decLe}
 use native.Mathlib.Nat.{le-antisymm, le-refl, mul-add, mul-le-mul-left}
 use native.Mathlib.Omega.{arith}
 use lib.Dec.{T, eqb, eqb→eq, T-not}
@@ -35,7 +34,7 @@ pub record Measure (μ : (ℕ → Bool) → ℕ) (M : ℕ) : Type 0 where
 pub count-measure : (L : List ℕ) → Once L → Measure (λ S. length (keep S L)) 1
 count-measure L o = record {
   split = λ S p. omega (arith, length-keep-split S p L);
-  none = λ S f. ap length (keep-none S L f);
+  none = λ S f. ap length (keep-none S L (λ c _. f c));
   one = λ S c f. once-length-le (keep S L) (c ∷ []) (once-keep S L o) (λ x m. here (f x (mem-of-keep S L m .1)));
 }
 

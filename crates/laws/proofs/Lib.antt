@@ -2,6 +2,8 @@
 pub mod Tests
 -- the digits of a number decide it
 pub mod Digits
+-- inside and apart, taxon by taxon
+pub mod Inside
 -- inside, apart, union and what is left
 pub mod Cluster
 -- the number of taxa, one-taxon clusters, highest and lowest taxon

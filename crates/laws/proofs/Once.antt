@@ -1,12 +1,14 @@
 -- Lists in which no element stands twice.
---     once-keep, once-append, once-map, once-bind, once-map-keep, once-of-map     what keeps a list so
+--     once-keep, once-append     what a filter leaves; two lists that share no element, one behind the other
+--     once-map, once-bind        the images by a function that tells elements apart; the lists of `bind`, if they share no element
+--     once-map-keep, once-of-map the images of what a filter leaves; a list whose images don't repeat
 --     once-length-le     a list without repetition whose elements are in another is no longer than that
 --     once-length        two such lists with the same elements are of one length
 --     map-inj            where the images don't repeat, equal images have equal elements
 -- Assumes nothing.
-use mathlib.Core.Path.{_≡_, refl, sym, ap, ap₂, _∙_, subst}
+use mathlib.Core.Path.{_≡_, refl, sym, ap, _∙_, subst}
 use mathlib.Core.Logic.{_⊎_, inl, inr, _≢_}
-use mathlib.Core.Bool.{Bool, true, false, not, _&&_, _||_}
+use mathlib.Core.Bool.{Bool, true, false}
 use mathlib.Core.List.{List, [], _∷_, _++_, map, List·Memᴰ·append-cases, Memᴰ·map, Memᴰ·of-map, Memᴰ·cast}
 use mathlib.Core.List.{List·Memᴰ as Mem, List·Memᴰ·head as here, List·Memᴰ·tail as there}
 use Prim.Native.Nat.{ℕ, suc, _≤_, zero-le, suc-le-suc}
@@ -52,10 +54,12 @@ module _ {A : Type 0} where
   pub once-length-le : (xs ys : List A) → Once xs → ((x : A) → Mem x xs → Mem x ys) → length xs ≤ length ys
   once-length-le [] ys d f = zero-le
   once-length-le (x ∷ xs) ys d f =
-      subst (λ (n : ℕ). suc (length xs) ≤ n) (sym (cut-length ys (f x (here refl))))
-      (suc-le-suc (once-length-le xs (cut ys (f x (here refl))) (d .1) (λ y m. cut-mem ys (f x (here refl)) y (f y (there m)) (λ e. d .0 (Memᴰ·cast (sym e) m)))))
+      let at = f x (here refl) in
+      subst (λ (n : ℕ). suc (length xs) ≤ n) (sym (cut-length ys at))
+      (suc-le-suc (once-length-le xs (cut ys at) (d .1) (λ y m. cut-mem ys at y (f y (there m)) (λ e. d .0 (Memᴰ·cast (sym e) m)))))
 
-  pub once-length : (xs ys : List A) → Once xs → Once ys → ((x : A) → Mem x xs → Mem x ys) → ((x : A) → Mem x ys → Mem x xs) → length xs ≡ length ys
+  pub once-length : (xs ys : List A) → Once xs → Once ys → ((x : A) → Mem x xs → Mem x ys) → ((x : A) → Mem x ys → Mem x xs)
+      → length xs ≡ length ys
   once-length xs ys d e f g = le-antisymm (once-length-le xs ys d f) (once-length-le ys xs e g)
 
 module _ {A B : Type 0} where
@@ -66,10 +70,12 @@ module _ {A B : Type 0} where
       go : (a : A) × Mem a xs × (f a ≡ f x) → ⊥
       go q = d .0 (Memᴰ·cast (i x (q .0) (here refl) (there (q .1)) (sym (q .2))) (q .1))
 
-  pub once-bind : (f : A → List B) (l : List A) → Once l → ((x : A) → Mem x l → Once (f x)) → ((x x′ : A) (y : B) → Mem x l → Mem x′ l → Mem y (f x) → Mem y (f x′) → x ≡ x′) → Once (bind f l)
+  pub once-bind : (f : A → List B) (l : List A) → Once l → ((x : A) → Mem x l → Once (f x))
+      → ((x x′ : A) (y : B) → Mem x l → Mem x′ l → Mem y (f x) → Mem y (f x′) → x ≡ x′) → Once (bind f l)
   once-bind f [] d h i = tt
   once-bind f (x ∷ xs) d h i =
-      once-append (f x) (bind f xs) (h x (here refl)) (once-bind f xs (d .1) (λ z m. h z (there m)) (λ a b y m k p q. i a b y (there m) (there k) p q))
+      once-append (f x) (bind f xs) (h x (here refl))
+      (once-bind f xs (d .1) (λ z m. h z (there m)) (λ a b y m k p q. i a b y (there m) (there k) p q))
       (λ y m k. let q = mem-of-bind f xs k in d .0 (Memᴰ·cast (i x (q .0) y (here refl) (there (q .1)) m (q .2)) (q .1)))
 
 module _ {A : Type 0} where

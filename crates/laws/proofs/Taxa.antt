@@ -1,29 +1,28 @@
 -- The number of taxa of a cluster, one-taxon clusters, and the highest taxon.
 --     taxa-mem, mem-taxa        the one-taxon clusters of a width
---     size-taxon, size-pos, size-part, size-le, size-union, size-half
+--     size-taxon, size-pos      one taxon has size 1, and what isn't nothing has 1 at least
+--     size-part, size-le, size-union     a part and the rest, a part, and two that are apart
 --     single→, →single          exactly one taxon: a power of two
 --     inside-single             what lies inside a one-taxon cluster is that cluster
 --     highest-le, highest-gt    2 ^ highest c is the largest power of two that c reaches
 --     highest-only              and no other taxon is
 -- Assumes nothing.
 use mathlib.Core.Path.{_≡_, refl, sym, ap, ap₂, _∙_, subst}
-use mathlib.Core.Logic.{_⊎_, inl, inr, _≢_}
-use mathlib.Core.Bool.{Bool}
-use mathlib.Core.List.{List, [], _∷_, List·Memᴰ as Mem, List·Memᴰ·head as here, List·Memᴰ·tail as there}
-use Prim.Native.Nat.{ℕ, zero, suc, _+_, _-_, _*_, _/_, _%_, _^_, _≤_, _<_, min}
+use mathlib.Core.Logic.{_≢_}
+use mathlib.Core.List.{_∷_, List·Memᴰ as Mem, List·Memᴰ·head as here, List·Memᴰ·tail as there}
+use Prim.Native.Nat.{ℕ, zero, suc, _+_, _-_, _/_, _%_, _^_, _≤_, _<_}
 use native.Mathlib.Decide.{ℕ-discrete, decLe}
-use native.Mathlib.Nat.{min-le-left, min-le-right, pow-suc, mod-lt, le-refl, le-trans, lt-of-lt-of-le}
+use native.Mathlib.Nat.{min-le-left, min-le-right, mod-lt, le-refl}
 use native.Mathlib.Omega.{arith}
 use lib.Arith.{bin-ind}
 use lib.Bits.{bitAnd, bitOr, and-step, and-le-r}
-use lib.Count.{ones, ones-step}
-use lib.Dec.{T, eqb, eqb→eq, lit<}
-use lib.Pow.{pow-pos, pow-mono, pow-lt}
+use lib.Count.{ones, onesIn, ones-step}
+use lib.Dec.{T, eqb→eq, lit<}
+use lib.Pow.{pow-pos, pow-mono}
 use Rattle.laws.specs.Cluster.{inside, apart, size, single, taxa, halvings, highest}
 use Rattle.laws.proofs.Tests.{eq→eqb}
-use Rattle.laws.proofs.Cluster.{inside-antisym, inside-trans, le-of-inside, inside-of-has, has-of-inside, inside-union-l, rest-union, union-apart}
+use Rattle.laws.proofs.Cluster.{inside→, inside-antisym, le-of-inside, inside-of-has, inside-union-l, rest-union}
 use Rattle.laws.proofs.Digits.{Has, has-of-nonzero, pow-has}
-use Rattle.laws.proofs.Cluster as cluster
 
 -- ---- the one-taxon clusters of a width
 
@@ -42,11 +41,11 @@ mem-taxa (suc w) u (there m) = let q = mem-taxa w u m in (q .0, omega (arith, q 
 -- ---- how many taxa
 
 size-zero : size 0 ≡ 0
-unfolding ones lib.Count.onesIn
+unfolding ones onesIn
 size-zero = refl
 
 size-one : size 1 ≡ 1
-unfolding ones lib.Count.onesIn
+unfolding ones onesIn
 size-one = refl
 
 pub size-taxon : (t : ℕ) → size (2 ^ t) ≡ 1
@@ -60,7 +59,9 @@ size-taxon (suc t) = ones-step (2 ^ suc t) ∙ ap₂ (λ (x y : ℕ). x + size y
     half = omega arith
 
 zero-of-size : (c : ℕ) → size c ≡ 0 → c ≡ 0
-zero-of-size = bin-ind (λ (c : ℕ). size c ≡ 0 → c ≡ 0) (λ e. refl) (λ c ih e. omega (arith, ones-step c, ih (omega (arith, ones-step c, e)), e))
+zero-of-size =
+    bin-ind (λ (c : ℕ). size c ≡ 0 → c ≡ 0) (λ e. refl)
+    (λ c ih e. omega (arith, ones-step c, ih (omega (arith, ones-step c, e)), e))
 
 pub size-pos : (c : ℕ) → c ≢ 0 → 1 ≤ size c
 size-pos c n = go (size c) refl
@@ -97,7 +98,7 @@ inside-single t a n h = inside-antisym a (2 ^ t) h (inside-of-has t a (go (has-o
     lt = omega (arith, le-of-inside a (2 ^ t) h, pow-pos t)
 
     go : (s : ℕ) × (s < suc t) × Has a s → Has a t
-    go p = subst (Has a) (pow-has t (p .0) (cluster.inside→ a (2 ^ t) h (p .0) (p .2))) (p .2)
+    go p = subst (Has a) (pow-has t (p .0) (inside→ a (2 ^ t) h (p .0) (p .2))) (p .2)
 
 -- ---- a part of a cluster, and the rest
 
@@ -110,10 +111,12 @@ inside-half a b h =
     (omega (arith, s, l, r, h), omega (arith, s, l, r, h))
 
 size-rest : (a b : ℕ) → bitAnd a b ≡ a → size a + size (b - a) ≡ size b
-size-rest =
-    bin-ind (λ (a : ℕ). (b : ℕ) → bitAnd a b ≡ a → size a + size (b - a) ≡ size b) (λ b h. omega (arith, size-zero, ap size (let q : b - 0 ≡ b = omega arith in q))) step
+size-rest = bin-ind Splits (λ b h. omega (arith, size-zero, ap size (let q : b - 0 ≡ b = omega arith in q))) step
   where
-    step : (a : ℕ) → ((b : ℕ) → bitAnd (a / 2) b ≡ a / 2 → size (a / 2) + size (b - a / 2) ≡ size b) → (b : ℕ) → bitAnd a b ≡ a → size a + size (b - a) ≡ size b
+    Splits : ℕ → Type 0
+    Splits a = (b : ℕ) → bitAnd a b ≡ a → size a + size (b - a) ≡ size b
+
+    step : (a : ℕ) → Splits (a / 2) → Splits a
     step a ih b h =
         let p = inside-half a b h in
         let le : a ≤ b = subst (λ (n : ℕ). n ≤ b) h (and-le-r a b) in

@@ -14,11 +14,10 @@ use mathlib.Core.List.{List·Memᴰ as Mem, List·Memᴰ·head as here, List·Me
 use Prim.Native.Nat.{ℕ, _+_, _*_}
 use native.Mathlib.Omega.{arith}
 use lib.Dec.{T, eqb→eq}
-use lib.IntN.{ℤ, pos}
+use lib.IntN.{pos}
 use lib.ListN.{length, length-append}
 use Rattle.laws.specs.Cluster.{inside, apart, single}
-use Rattle.laws.specs.Lists.{keep, every, elem, sublists}
-use Rattle.laws.proofs.Falling.{Falling}
+use Rattle.laws.specs.Lists.{keep, every, sublists}
 use Rattle.laws.proofs.Tests.{T-and, T-or}
 use Rattle.laws.proofs.Keep.{mem-of-keep, every→}
 use Rattle.laws.proofs.Sublists.{mem-of-sublist}

@@ -6,8 +6,8 @@
 --     worked-is-built         the theorem, for all rows at once
 -- Assumes nothing.
 use mathlib.Core.Path.{_≡_, refl, sym, ap, ap₂, _∙_, subst}
-use mathlib.Core.Logic.{_⊎_, inl, inr, _≢_}
-use mathlib.Core.Bool.{Bool, true, false, not, cond, _&&_}
+use mathlib.Core.Logic.{_≢_}
+use mathlib.Core.Bool.{Bool, true, false, not, _&&_}
 use mathlib.Core.Option.{Option, none, some}
 use mathlib.Core.List.{List, [], _∷_, _++_, map, append-assoc, Memᴰ·map, Memᴰ·of-map}
 use mathlib.Core.List.{List·Memᴰ as Mem, List·Memᴰ·head as here, List·Memᴰ·tail as there, List·Memᴰ·not-nil as mem-nil}
@@ -28,18 +28,18 @@ use Rattle.trees.specs.Tree.{treesOn}
 use Rattle.trees.specs.Tuple.{isTuple}
 use Rattle.trees.specs.Heaviest.{firstHeaviest}
 use Rattle.trees.specs.Result.{Result, countField, markField}
-use Rattle.trees.specs.Built.{rowLength, withBest, treeResult, builtResult, builtTable}
-use Rattle.trees.specs.Rescored.{Key, keyFirst, counted, workedOut}
+use Rattle.trees.specs.Built.{rowLength, withBest, builtResult, builtTable}
+use Rattle.trees.specs.Rescored.{Key, keyFirst, workedOut}
 use Rattle.trees.proofs.Families.{Fam}
 use Rattle.trees.proofs.Kind.{tableOf, value, valueIf, build, mapE}
 use Rattle.trees.proofs.Rows.{RowFacts, table-row, table-rows, mem-scored, givenOf}
 use Rattle.trees.proofs.TreeFacts.{Given}
-use Rattle.trees.proofs.TreeTest.{famOf, tree-of}
+use Rattle.trees.proofs.TreeTest.{tree-of}
 use Rattle.trees.proofs.Marks.{marks-keep, weight-keep}
-use Rattle.trees.proofs.KeyOrder.{key-irrefl, key-trans}
-use Rattle.trees.proofs.FirstHeaviest.{setKey, SetOf, AllSets, first-key}
+use Rattle.trees.proofs.KeyOrder.{key-irrefl}
+use Rattle.trees.proofs.FirstHeaviest.{setKey, AllSets, first-key}
 use Rattle.trees.proofs.Keys.{top, AtLeast, top-comm, least-of-first, Sol, solKind}
-use Rattle.trees.proofs.Best.{keyIn, Answer, row-answer}
+use Rattle.trees.proofs.Best.{Answer, row-answer}
 use Rattle.trees.proofs.Capped.{Res, encodeSol, encode, Counted, second, count-small}
 use Rattle.trees.proofs.Worked.{markIn, lengthIf, trueResult, AllCounted, worked-encode, counted-value}
 use Rattle.trees.proofs.RowLength.{length-beneath}

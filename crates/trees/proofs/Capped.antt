@@ -11,27 +11,20 @@ use mathlib.Core.Logic.{_⊎_, inl, inr}
 use mathlib.Core.Bool.{Bool, true, false, not, cond, _&&_, _||_}
 use mathlib.Core.Option.{Option, none, some}
 use mathlib.Core.List.{List, [], _∷_, map}
-use mathlib.Core.List.{List·Memᴰ as Mem, List·Memᴰ·head as here, List·Memᴰ·tail as there, List·Memᴰ·not-nil as mem-nil}
 use Prim.Native.Nat.{ℕ, zero, suc, _+_, _*_, _≤_, _<_}
 use native.Mathlib.Decide.{decLe}
 use native.Mathlib.Nat.{mul-zero, zero-mul, one-mul, mul-one, one-le-mul, mul-le-mul-left, mul-le-mul-right, le-refl}
 use native.Mathlib.Omega.{arith}
-use lib.Dec.{T, eqb, leb, ltb, leb·zero, leb→le, le→leb, ltb→lt, lt→ltb, eqb→eq}
-use lib.IntN.{ℤ, pos, _+ℤ_}
-use lib.ListN.{length, length-map}
-use Rattle.laws.specs.Cluster.{single}
-use Rattle.laws.specs.Limits.{Width}
-use Rattle.laws.specs.Lists.{keepIf, keep, some as any, every}
+use lib.Dec.{eqb, leb, ltb, leb→le, le→leb, ltb→lt, lt→ltb, eqb→eq}
+use lib.IntN.{pos}
+use lib.ListN.{length}
+use Rattle.laws.specs.Lists.{some as any}
 use Rattle.laws.proofs.Tests.{T-true, T-false}
-use Rattle.laws.proofs.Keep.{keep-map, mem-of-keep}
-use Rattle.laws.proofs.Sublists.{mem-of-sublist}
-use Rattle.trees.specs.Rows.{Row, isScored, Entry, cl, sc}
-use Rattle.trees.specs.Tuple.{isTuple, tuples}
-use Rattle.trees.specs.Result.{Result, blank, countField, markField, marksIn}
-use Rattle.trees.specs.Rescored.{counted, summed, timesCounts, sumCounts, isLive, isMarked, Key, keyOf, firstOfKeys, firstKey, isMany, joined, alone, together, workedOut}
-use Rattle.trees.proofs.Families.{one}
-use Rattle.trees.proofs.Kind.{Kind, prodK, overTuples, valueIf, value, mapE, tuples-map, Hom, hom-sum}
-use Rattle.trees.proofs.Keys.{top, Sol, plusSol, timesSol, countKind, solKind}
+use Rattle.trees.specs.Rows.{Entry}
+use Rattle.trees.specs.Result.{Result, countField, markField}
+use Rattle.trees.specs.Rescored.{timesCounts, sumCounts, isLive, isMarked, isMany}
+use Rattle.trees.proofs.Kind.{mapE, Hom}
+use Rattle.trees.proofs.Keys.{Sol, plusSol, timesSol, countKind, solKind}
 
 -- a row length, and a count with a key
 abbrev pub Res : Type 0

@@ -3,7 +3,8 @@
 --     CoverFacts, cover→, →cover the test as a record, out of it and into it
 --     covers-cons                one child more: it lies inside R, and the others cover what is left
 --     isCover, coversOf n R es   the covers of R among the sublists of entries
---     inFront, takeIf            an entry in front of each of some lists; none of them where it may not be taken
+--     inFront                    an entry in front of each of some lists (passed on from laws)
+--     takeIf b e τs              the same; none of them where it may not be taken
 --     chosen n R es              the same by recursion: each entry is taken or passed over
 --     chosen-is, coversOf-cons   it gives the covers in the same order
 --     tuples-are-covers          among rows below C the tuples of C are its covers
@@ -22,8 +23,9 @@ use lib.ListN.{length}
 use Rattle.laws.specs.Cluster.{inside, apart, unionOf}
 use Rattle.laws.specs.Lists.{keepIf, keep, every, sublists}
 use Rattle.laws.proofs.Tests.{T-and, and-T, bool-ext, eq→eqb}
-use Rattle.laws.proofs.Keep.{→every, keep-ext, keep-map, keep-append, keep-none}
-use Rattle.laws.proofs.Sublists.{mem-of-sublist, sublists-map}
+use Rattle.laws.proofs.Keep.{→every, keep-ext, keep-map, keep-none}
+use Rattle.laws.proofs.Sublists.{keep-sublists-cons, mem-of-sublist, sublists-map}
+pub use Rattle.laws.proofs.Sublists.{inFront}
 use Rattle.laws.proofs.Cluster.{inside-refl, inside-union-l, apart-of-inside, apart-unionOf, inside-unionOf}
 use Rattle.laws.proofs.Cluster.{rest-apart, union-rest, union-apart, two-parts}
 use Rattle.trees.specs.Rows.{Entry, cl}
@@ -108,10 +110,6 @@ module _ {A : Type 0} where
   abbrev pub coversOf : ℕ → ℕ → List (Entry A) → List (List (Entry A))
   coversOf n R es = keep (isCover n R) (sublists es)
 
-  -- each of some lists with e in front of it
-  abbrev pub inFront : Entry A → List (List (Entry A)) → List (List (Entry A))
-  inFront e τs = map (λ (τ : List (Entry A)). e ∷ τ) τs
-
   abbrev pub takeIf : Bool → Entry A → List (List (Entry A)) → List (List (Entry A))
   takeIf b e τs = cond b (inFront e τs) []
 
@@ -127,19 +125,12 @@ module _ {A : Type 0} where
       go true = refl
       go false = refl
 
-  -- the sublists that pass a test: those without e, and those with it
-  keep-front : (p : List (Entry A) → Bool) (e : Entry A) (es : List (Entry A))
-      → keep p (sublists (e ∷ es)) ≡ keep p (sublists es) ++ inFront e (keep (λ (τ : List (Entry A)). p (e ∷ τ)) (sublists es))
-  keep-front p e es =
-      keep-append p (sublists es) (inFront e (sublists es))
-      ∙ ap (λ (x : List (List (Entry A))). keep p (sublists es) ++ x) (keep-map (λ (τ : List (Entry A)). e ∷ τ) p (sublists es))
-
   -- with no child left, no entry is taken
   coversOf-zero : (R : ℕ) (e : Entry A) (es : List (Entry A)) → coversOf 0 R (e ∷ es) ≡ coversOf 0 R es
   coversOf-zero R e es =
-      keep-front (isCover 0 R) e es
+      keep-sublists-cons (isCover 0 R) e es
       ∙ ap (λ (x : List (List (Entry A))). coversOf 0 R es ++ inFront e x)
-      (keep-none (λ (τ : List (Entry A)). isCover 0 R (e ∷ τ)) (sublists es) many)
+      (keep-none (λ (τ : List (Entry A)). isCover 0 R (e ∷ τ)) (sublists es) (λ τ _. many τ))
       ∙ append-nil (coversOf 0 R es)
     where
       many : (τ : List (Entry A)) → T (isCover 0 R (e ∷ τ)) → ⊥
@@ -148,7 +139,7 @@ module _ {A : Type 0} where
   pub coversOf-cons : (n R : ℕ) (e : Entry A) (es : List (Entry A))
       → coversOf (suc n) R (e ∷ es) ≡ coversOf (suc n) R es ++ takeIf (inside (cl e) R) e (coversOf n (R - cl e) es)
   coversOf-cons n R e es =
-      keep-front (isCover (suc n) R) e es
+      keep-sublists-cons (isCover (suc n) R) e es
       ∙ ap (λ (x : List (List (Entry A))). coversOf (suc n) R es ++ inFront e x)
       (keep-ext _ (λ (τ : List (Entry A)). inside (cl e) R && isCover n (R - cl e) τ) (sublists es)
       (λ τ _. covers-cons n R (cl e) (map cl τ)))
@@ -157,7 +148,7 @@ module _ {A : Type 0} where
       go : (b : Bool)
           → inFront e (keep (λ (τ : List (Entry A)). b && isCover n (R - cl e) τ) (sublists es)) ≡ takeIf b e (coversOf n (R - cl e) es)
       go true = refl
-      go false = ap (inFront e) (keep-none (λ (τ : List (Entry A)). false) (sublists es) (λ τ h. h))
+      go false = ap (inFront e) (keep-none (λ (τ : List (Entry A)). false) (sublists es) (λ τ _ h. h))
 
   pub chosen-is : (n R : ℕ) (es : List (Entry A)) → chosen n R es ≡ coversOf n R es
   chosen-is n R [] = sym (coversOf-nil n R)

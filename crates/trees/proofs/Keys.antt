@@ -19,7 +19,6 @@ use lib.IntN.{ℤ, pos, _+ℤ_, +ℤ-idr, +ℤ-comm}
 use lib.Signed.{ltZ}
 use Rattle.laws.proofs.Tests.{T-true, T-false}
 use Rattle.laws.proofs.Integers.{ltZ-add}
-use Rattle.trees.specs.Rows.{Row}
 use Rattle.trees.specs.Rescored.{Key, keyFirst}
 use Rattle.trees.proofs.Kind.{Kind, Lawful}
 use Rattle.trees.proofs.KeyOrder.{Before, heavier, level, before→, →before, key-irrefl, key-trans, Which, ahead, same, behind, which}

@@ -26,7 +26,7 @@ use Rattle.laws.specs.Cluster.{inside, apart, unionOf, highest}
 use Rattle.laws.specs.Lists.{keep, sublists}
 use Rattle.laws.proofs.Tests.{T-and, and-T, T-false, bool-ext, eq→eqb}
 use Rattle.laws.proofs.Descends.{Descends, descends-first}
-use Rattle.laws.proofs.Keep.{keep-ext, keep-none, keep-swap}
+use Rattle.laws.proofs.Keep.{keep-none, keep-swap}
 use Rattle.laws.proofs.Sublists.{mem-of-sublist, sublists-drop}
 use Rattle.laws.proofs.Cluster.{inside-refl, le-of-inside, apart-of-inside, rest-apart, union-rest, unionOf-lt, inside-unionOf}
 use Rattle.laws.proofs.Taxa.{highest-le, highest-gt, highest-only}
@@ -101,8 +101,7 @@ module _ {A : Type 0} where
   coversOf-dead : (n R : ℕ) (e : Entry A) (es : List (Entry A)) → Descends (map cl (e ∷ es)) → T (inside (cl e) R)
       → (T (ltb (R - cl e) (cl e)) → ⊥) → coversOf n (R - cl e) es ≡ []
   coversOf-dead n R e es h i f =
-      keep-ext (isCover n (R - cl e)) (λ τ. false) (sublists es) (λ τ m. T-false (isCover n (R - cl e) τ) (bad τ m))
-      ∙ keep-none (λ τ. false) (sublists es) (λ τ b. b)
+      keep-none (isCover n (R - cl e)) (sublists es) bad
     where
       low : (τ : List (Entry A)) → Mem τ (sublists es) → (c : ℕ) → Mem c (map cl τ) → c < cl e
       low τ m c k =

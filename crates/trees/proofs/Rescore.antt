@@ -11,15 +11,14 @@ use mathlib.Core.Path.{_≡_, refl, sym, ap, ap₂, _∙_, subst}
 use mathlib.Core.Logic.{_⊎_, inl, inr}
 use mathlib.Core.Bool.{Bool, true, false, not, cond}
 use mathlib.Core.List.{List, [], _∷_, map, Memᴰ·map}
-use mathlib.Core.List.{List·Memᴰ as Mem}
 use Prim.Native.Nat.{ℕ}
-use lib.Dec.{T, eqb, eqb→eq, not-T}
+use lib.Dec.{T, eqb, eqb→eq}
 use lib.IntN.{ℤ}
 use lib.ListN.{length}
 use Rattle.laws.specs.Cluster.{inside, single}
 use Rattle.laws.specs.Limits.{Width}
 use Rattle.laws.specs.Lists.{keepIf, keep}
-use Rattle.laws.proofs.Tests.{T-dec, T-true, T-false, true-T}
+use Rattle.laws.proofs.Tests.{T-dec, T-true, T-false}
 use Rattle.laws.proofs.Keep.{keep-swap}
 use Rattle.laws.proofs.Sublists.{sublists-drop}
 use Rattle.laws.proofs.Cluster.{inside-refl, inside-trans}

@@ -3,23 +3,25 @@
 --     tuples-clusters      tuples of entries, as tuples of their clusters
 --     table-scored         the scored clusters of a table
 --     tuples-strict        only what lies strictly inside C counts
+--     tuples-above         so clusters that aren't, in front, play no part
 --     tuples-beneath       the tuples among all rows are those among the rows beneath
 --     length-beneath       so their numbers are equal
 -- Assumes nothing.
-use mathlib.Core.Path.{_≡_, refl, sym, ap, ap₂, _∙_}
+use mathlib.Core.Path.{_≡_, refl, sym, ap, _∙_}
 use mathlib.Core.Logic.{_⊎_, inl, inr, _≢_}
 use mathlib.Core.Bool.{Bool, true, false, not, _&&_}
-use mathlib.Core.List.{List, [], _∷_, _++_, map, map-append, append-assoc, Memᴰ·append-right, Memᴰ·map, List·Memᴰ·append-cases, List·Memᴰ·eq-of-singleton}
-use mathlib.Core.List.{List·Memᴰ as Mem, List·Memᴰ·head as here, List·Memᴰ·tail as there}
+use mathlib.Core.List.{List, [], _∷_, _++_, map, map-append, append-assoc, Memᴰ·append-right, Memᴰ·map}
+use mathlib.Core.List.{List·Memᴰ·append-cases, List·Memᴰ·eq-of-singleton}
+use mathlib.Core.List.{List·Memᴰ as Mem}
 use Prim.Native.Nat.{ℕ, _<_}
 use native.Mathlib.Omega.{arith}
-use lib.Dec.{T, eqb, eqb→eq, T-not, not-T, eqb-refl}
+use lib.Dec.{T, eqb}
 use lib.ListN.{length, length-map}
 use Rattle.laws.specs.Cluster.{inside, strict}
 use Rattle.laws.specs.Lists.{keepIf, keep, every, sublists}
-use Rattle.laws.proofs.Falling.{Falling}
-use Rattle.laws.proofs.Tests.{T-and, and-T, T-false, bool-ext}
-use Rattle.laws.proofs.Keep.{keep-ext, keep-map, keep-append, keep-none-mem, every→, →every}
+use Rattle.laws.proofs.Falling.{Falling, falling-above}
+use Rattle.laws.proofs.Tests.{T-and, and-T, bool-ext, neq→, →neq}
+use Rattle.laws.proofs.Keep.{keep-ext, keep-map, keep-append, keep-none, every→, →every}
 use Rattle.laws.proofs.Sublists.{sublists-map, sublists-drop, mem-of-sublist}
 use Rattle.laws.proofs.Cluster.{le-of-inside, strict→, →strict}
 use Rattle.trees.specs.Rows.{Row, isScored, clustersOf, scoredIn, Entry, cl, sc}
@@ -37,7 +39,8 @@ module _ {A : Type 0} where
   table-scored F (r ∷ rs) = go (isScored r) (table-scored F rs)
     where
       go : (b : Bool) → map cl (keep sc (tableOf F rs)) ≡ scoredIn rs
-          → map cl (keepIf b (record { row = r; val = F r (tableOf F rs) }) (keep sc (tableOf F rs))) ≡ clustersOf (keepIf b r (keep isScored rs))
+          → map cl (keepIf b (record { row = r; val = F r (tableOf F rs) }) (keep sc (tableOf F rs)))
+          ≡ clustersOf (keepIf b r (keep isScored rs))
       go true e = ap (λ (cs : List ℕ). r .cluster ∷ cs) e
       go false e = e
 
@@ -52,8 +55,7 @@ module _ (d C : ℕ) where
   full s = isTuple d C s && nonzero s
 
   nonzero→ : (s : List ℕ) → T (nonzero s) → (c : ℕ) → Mem c s → c ≢ 0
-  nonzero→ s h c m e =
-      T-not (eqb c 0) (every→ (λ (x : ℕ). not (eqb x 0)) s h c m) (rw e (eqb-refl 0))
+  nonzero→ s h c m = neq→ c 0 (every→ (λ (x : ℕ). not (eqb x 0)) s h c m)
 
   full-strict : (s : List ℕ) → T (full s) → (c : ℕ) → Mem c s → T (strict c C)
   full-strict s h c m =
@@ -64,20 +66,23 @@ module _ (d C : ℕ) where
   full-is L nz = keep-ext (isTuple d C) full (sublists L) same
     where
       all : (s : List ℕ) → Mem s (sublists L) → T (nonzero s)
-      all s m = →every (λ (c : ℕ). not (eqb c 0)) s (λ c k. not-T (eqb c 0) (λ t. nz c (mem-of-sublist L s m c k) (eqb→eq c 0 t)))
+      all s m = →every (λ (c : ℕ). not (eqb c 0)) s (λ c k. →neq c 0 (nz c (mem-of-sublist L s m c k)))
 
       same : (s : List ℕ) → Mem s (sublists L) → isTuple d C s ≡ full s
-      same s m = bool-ext (isTuple d C s) (full s) (λ h. and-T (isTuple d C s) (nonzero s) h (all s m)) (λ h. T-and (isTuple d C s) (nonzero s) h .0)
+      same s m =
+          bool-ext (isTuple d C s) (full s) (λ h. and-T (isTuple d C s) (nonzero s) h (all s m))
+          (λ h. T-and (isTuple d C s) (nonzero s) h .0)
 
   pub tuples-strict : (L : List ℕ) → ((c : ℕ) → Mem c L → c ≢ 0)
       → keep (isTuple d C) (sublists L) ≡ keep full (sublists (keep (λ (c : ℕ). strict c C) L))
   tuples-strict L nz = full-is L nz ∙ sublists-drop (λ (c : ℕ). strict c C) full L full-strict
 
   -- clusters above C, and C itself, are in no tuple of C
-  drop-above : (up L : List ℕ) → ((c : ℕ) → Mem c up → T (strict c C) → ⊥) → keep (λ (c : ℕ). strict c C) (up ++ L) ≡ keep (λ (c : ℕ). strict c C) L
+  drop-above : (up L : List ℕ) → ((c : ℕ) → Mem c up → T (strict c C) → ⊥)
+      → keep (λ (c : ℕ). strict c C) (up ++ L) ≡ keep (λ (c : ℕ). strict c C) L
   drop-above up L f =
       keep-append (λ (c : ℕ). strict c C) up L
-      ∙ ap (λ (l : List ℕ). l ++ keep (λ (c : ℕ). strict c C) L) (keep-none-mem (λ (c : ℕ). strict c C) up f)
+      ∙ ap (λ (l : List ℕ). l ++ keep (λ (c : ℕ). strict c C) L) (keep-none (λ (c : ℕ). strict c C) up f)
 
   pub tuples-above : (up L : List ℕ) → ((c : ℕ) → Mem c (up ++ L) → c ≢ 0) → ((c : ℕ) → Mem c up → T (strict c C) → ⊥)
       → keep (isTuple d C) (sublists (up ++ L)) ≡ keep (isTuple d C) (sublists L)
@@ -88,12 +93,9 @@ module _ (d C : ℕ) where
 
 -- ---- rows above and beneath
 
-falling-above : (up : List ℕ) (c : ℕ) (L : List ℕ) → Falling (up ++ (c ∷ L)) → (a : ℕ) → Mem a up → c < a
-falling-above (x ∷ up) c L f a (here e) = rw e (f .0 c (Memᴰ·append-right up (here refl)))
-falling-above (x ∷ up) c L f a (there m) = falling-above up c L (f .1) a m
-
 scored-append : (up qs : List Row) → scoredIn (up ++ qs) ≡ scoredIn up ++ scoredIn qs
-scored-append up qs = ap clustersOf (keep-append isScored up qs) ∙ map-append (λ (r : Row). r .cluster) (keep isScored up) (keep isScored qs)
+scored-append up qs =
+    ap clustersOf (keep-append isScored up qs) ∙ map-append (λ (r : Row). r .cluster) (keep isScored up) (keep isScored qs)
 
 module _ (w d : ℕ) (up : List Row) (r : Row) (qs : List Row) (f : RowFacts w (up ++ (r ∷ qs))) where
   not-strict : (c : ℕ) → Mem c (scoredIn (up ++ (r ∷ []))) → T (strict c (r .cluster)) → ⊥
@@ -105,6 +107,10 @@ module _ (w d : ℕ) (up : List Row) (r : Row) (qs : List Row) (f : RowFacts w (
       falls : Falling (clustersOf up ++ (r .cluster ∷ clustersOf qs))
       falls = rw (← map-append (λ (x : Row). x .cluster) up (r ∷ qs)) (f .falls)
 
+      above : (x : Row) → Mem x up → r .cluster < x .cluster
+      above x j =
+          falling-above (clustersOf up) (r .cluster) (clustersOf qs) falls (x .cluster) (Memᴰ·map (λ (y : Row). y .cluster) j)
+
       at : (x : Row) → Mem x (up ++ (r ∷ [])) → x .cluster ≡ c → ⊥
       at x k e = go (List·Memᴰ·append-cases up k)
         where
@@ -112,11 +118,11 @@ module _ (w d : ℕ) (up : List Row) (r : Row) (qs : List Row) (f : RowFacts w (
           s = strict→ c (r .cluster) h
 
           go : Mem x up ⊎ Mem x (r ∷ []) → ⊥
-          go (inl j) =
-              omega (arith, falling-above (clustersOf up) (r .cluster) (clustersOf qs) falls (x .cluster) (Memᴰ·map (λ (y : Row). y .cluster) j), le-of-inside c (r .cluster) (s .0), e)
+          go (inl j) = omega (arith, above x j, le-of-inside c (r .cluster) (s .0), e)
           go (inr j) = s .1 (sym e ∙ ap (λ (y : Row). y .cluster) (List·Memᴰ·eq-of-singleton j))
 
-  pub tuples-beneath : keep (isTuple d (r .cluster)) (sublists (scoredIn (up ++ (r ∷ qs)))) ≡ keep (isTuple d (r .cluster)) (sublists (scoredIn qs))
+  pub tuples-beneath : keep (isTuple d (r .cluster)) (sublists (scoredIn (up ++ (r ∷ qs))))
+      ≡ keep (isTuple d (r .cluster)) (sublists (scoredIn qs))
   tuples-beneath =
       ap (λ (l : List ℕ). keep (isTuple d (r .cluster)) (sublists l)) split
       ∙ tuples-above d (r .cluster) (scoredIn (up ++ (r ∷ []))) (scoredIn qs) nz not-strict
@@ -130,7 +136,8 @@ module _ (w d : ℕ) (up : List Row) (r : Row) (qs : List Row) (f : RowFacts w (
           λ e. f .fits (q .0) (q .1) .0 (q .3 ∙ e)
 
   pub length-beneath : {A : Type 0} (F : Row → List (Entry A) → A)
-      → length (tuples d (r .cluster) (keep sc (tableOf F qs))) ≡ length (keep (isTuple d (r .cluster)) (sublists (scoredIn (up ++ (r ∷ qs)))))
+      → length (tuples d (r .cluster) (keep sc (tableOf F qs)))
+      ≡ length (keep (isTuple d (r .cluster)) (sublists (scoredIn (up ++ (r ∷ qs)))))
   length-beneath F =
       sym (length-map (tuples d (r .cluster) (keep sc (tableOf F qs))) (map cl))
       ∙ ap length (tuples-clusters d (r .cluster) (keep sc (tableOf F qs)))

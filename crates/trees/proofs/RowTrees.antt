@@ -12,7 +12,7 @@ use mathlib.Core.List.{List·Memᴰ as Mem, List·Memᴰ·head as here, List·Me
 use Prim.Native.Nat.{ℕ}
 use lib.Dec.{T}
 use Rattle.laws.specs.Cluster.{single}
-use Rattle.laws.specs.Lists.{keep, sublists, bind, Once}
+use Rattle.laws.specs.Lists.{sublists, bind, Once}
 use Rattle.laws.proofs.Keep.{mem-bind, mem-of-bind}
 use Rattle.laws.proofs.Once.{once-keep, once-append, once-map, once-bind, once-of-map, map-inj}
 use Rattle.laws.proofs.Sublists.{mem-of-sublist, sublists-once, sublist-is-keep}

@@ -8,13 +8,11 @@
 -- Assumes nothing.
 use mathlib.Core.Path.{_≡_, refl, sym, ap, _∙_, subst}
 use mathlib.Core.Logic.{_≢_}
-use mathlib.Core.Bool.{Bool, true, false}
 use mathlib.Core.List.{List, [], _∷_, map, Memᴰ·map, Memᴰ·of-map}
 use mathlib.Core.List.{List·Memᴰ as Mem, List·Memᴰ·head as here, List·Memᴰ·tail as there, List·Memᴰ·not-nil as mem-nil}
 use Prim.Native.Nat.{ℕ, _^_, _<_}
-use native.Mathlib.Omega.{arith}
 use lib.Dec.{T}
-use Rattle.laws.specs.Lists.{keepIf, keep, Once}
+use Rattle.laws.specs.Lists.{keep, Once}
 use Rattle.laws.proofs.Falling.{Falling, falling-once}
 use Rattle.laws.proofs.Keep.{mem-keep, mem-of-keep}
 use Rattle.laws.proofs.Once.{once-map-keep}

@@ -2,7 +2,7 @@
 --     single-right        the list of that one tree is right
 -- Assumes nothing.
 use mathlib.Core.Path.{_≡_, sym, _∙_, subst}
-use mathlib.Core.List.{List, [], _∷_, Memᴰ·cast}
+use mathlib.Core.List.{[], _∷_, Memᴰ·cast}
 use mathlib.Core.List.{List·Memᴰ as Mem, List·Memᴰ·head as here, List·Memᴰ·tail as there, List·Memᴰ·not-nil as mem-nil}
 use mathlib.Core.Logic.{_≢_}
 use Prim.Native.Nat.{ℕ, _-_, _^_}

@@ -5,7 +5,6 @@
 --     table-right            and for all rows of a list
 -- Assumes nothing.
 use mathlib.Core.Path.{_≡_, refl, sym, ap, ap₂, _∙_, subst}
-use mathlib.Core.Logic.{_≢_}
 use mathlib.Core.Bool.{Bool, true, false}
 use mathlib.Core.List.{List, [], _∷_, _++_, map}
 use mathlib.Core.List.{List·Memᴰ as Mem, List·Memᴰ·head as here, List·Memᴰ·tail as there, List·Memᴰ·not-nil as mem-nil}
@@ -19,7 +18,7 @@ use Rattle.laws.proofs.Tests.{true-T}
 use Rattle.laws.proofs.Keep.{mem-keep, mem-of-keep}
 use Rattle.laws.proofs.Once.{once-map-keep}
 use Rattle.laws.proofs.Cluster.{le-of-inside, strict→}
-use Rattle.trees.specs.Rows.{Row, isScored, clustersOf, scoredIn, Entry, cl, sc}
+use Rattle.trees.specs.Rows.{Row, isScored, clustersOf, Entry, cl, sc}
 use Rattle.trees.specs.Tuple.{tuples}
 use Rattle.trees.proofs.Families.{Fam, empty, one, cross}
 use Rattle.trees.proofs.Kind.{Kind, prodK, overTuples, valueIf, value, build}

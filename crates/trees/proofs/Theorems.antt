@@ -9,10 +9,9 @@
 -- Assumes nothing.
 use mathlib.Core.Path.{_≡_, refl, sym, ap, _∙_, subst}
 use mathlib.Core.Logic.{_⊎_, inl, inr, _≢_, _↔_}
-use mathlib.Core.Bool.{Bool, true, false}
 use mathlib.Core.Option.{Option, none, some}
 use mathlib.Core.List.{List, [], _∷_, map, Memᴰ·of-map}
-use mathlib.Core.List.{List·Memᴰ as Mem, List·Memᴰ·head as here, List·Memᴰ·tail as there}
+use mathlib.Core.List.{List·Memᴰ as Mem}
 use Prim.Native.Nat.{ℕ, suc, _≤_, _<_, _^_}
 use native.Mathlib.Omega.{arith}
 use lib.Dec.{T}
@@ -25,15 +24,15 @@ use Rattle.laws.proofs.Falling.{Falling}
 use Rattle.laws.proofs.Integers.{ltZ-trans, ltZ-irrefl}
 use Rattle.trees.specs.Rows.{Row, clustersOf, scoredIn, Entry}
 use Rattle.trees.specs.Tree.{treesOn}
-use Rattle.trees.specs.Heaviest.{weightOf, tieFirst, comesFirst, firstHeaviest}
+use Rattle.trees.specs.Heaviest.{weightOf, comesFirst, firstHeaviest}
 use Rattle.trees.specs.Result.{Result, countField}
-use Rattle.trees.specs.Built.{builtResult, builtTable}
+use Rattle.trees.specs.Built.{builtTable}
 use Rattle.trees.specs.Rescored.{putScore, workedOut, rescored}
 use Rattle.trees.proofs.Rows.{RowFacts}
 use Rattle.trees.proofs.KeyOrder.{Before, before→}
-use Rattle.trees.proofs.FirstHeaviest.{setKey, Leads, comes-is-key, first-some, first-mem, first-before, first-only}
+use Rattle.trees.proofs.FirstHeaviest.{setKey, comes-is-key, first-some, first-mem, first-before, first-only}
 use Rattle.trees.proofs.Capped.{past, count-small, count-large}
-use Rattle.trees.proofs.Built.{sets, nonzero, workedTable, worked-is-built}
+use Rattle.trees.proofs.Built.{sets, nonzero, worked-is-built}
 use Rattle.trees.proofs.Rescore.{put-cluster, put-clusters, others, rescore-other, rescore-is-table}
 
 -- ---- demand 2: the best of a row

@@ -3,7 +3,7 @@
 --     right-list, list-right      a list that holds the families that are trees, and the trees of the definition
 --     right-count                 both have the same number
 -- Assumes nothing.
-use mathlib.Core.Path.{_≡_, refl, sym, ap, _∙_, subst}
+use mathlib.Core.Path.{_≡_, sym, ap, _∙_, subst}
 use mathlib.Core.Logic.{_⊎_, inl, inr}
 use mathlib.Core.Bool.{Bool, not, _&&_, _||_}
 use mathlib.Core.List.{List, map, Memᴰ·map, Memᴰ·of-map, Memᴰ·cast, List·Memᴰ as Mem}

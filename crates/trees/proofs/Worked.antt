@@ -4,7 +4,7 @@
 --     worked-encode           the theorem
 --     counted-value           true counts are one or more, where there is a tree
 -- Assumes nothing.
-use mathlib.Core.Path.{_≡_, refl, sym, ap, ap₂, _∙_, subst}
+use mathlib.Core.Path.{_≡_, refl, sym, ap, ap₂, _∙_}
 use mathlib.Core.Logic.{_⊎_, inl, inr}
 use mathlib.Core.Bool.{Bool, true, false, not, cond, _&&_}
 use mathlib.Core.Option.{Option, none, some}
@@ -13,7 +13,7 @@ use mathlib.Core.List.{List·Memᴰ as Mem, List·Memᴰ·head as here, List·Me
 use Prim.Native.Nat.{ℕ, _+_, _*_, _≤_, _<_}
 use native.Mathlib.Nat.{one-mul, one-le-mul, le-refl}
 use native.Mathlib.Omega.{arith}
-use lib.Dec.{T, eqb, eqb→eq}
+use lib.Dec.{eqb, eqb→eq}
 use lib.IntN.{_+ℤ_}
 use lib.ListN.{length, length-map}
 use Rattle.laws.specs.Cluster.{single}
@@ -28,7 +28,7 @@ use Rattle.trees.specs.Result.{Result, blank, countField, markField, mar
 use Rattle.trees.specs.Rescored.{counted, isLive, Key, keyOf, firstOfKeys, firstKey, joined, alone, together, workedOut}
 use Rattle.trees.proofs.Families.{one}
 use Rattle.trees.proofs.Kind.{Kind, prodK, overTuples, valueIf, value, mapE, tuples-map, hom-sum}
-use Rattle.trees.proofs.Keys.{top, joinK, Sol, plusSol, timesSol, countKind, solKind}
+use Rattle.trees.proofs.Keys.{joinK, Sol, plusSol, timesSol, countKind, solKind}
 use Rattle.trees.proofs.Capped.{Res, encodeSol, encode, trueCount, Counted, second, past, count-small, count-large, count-hom, fieldsT, trueTimes, trueSum, many-is}
 
 -- the mark of one cluster among those of a table

@@ -13,7 +13,7 @@ use mathlib.Core.Bool.{Bool, true, false, not, cond, _&&_, _||_}
 use mathlib.Core.Option.{Option, none, some}
 use mathlib.Core.List.{List, [], _∷_, map}
 use Prim.Native.Nat.{ℕ, _+_, _*_}
-use lib.Dec.{eqb, leb, ltb}
+use lib.Dec.{eqb, ltb}
 use lib.IntN.{ℤ, pos, _+ℤ_}
 use lib.ListN.{length}
 use lib.Signed.{ltZ}
