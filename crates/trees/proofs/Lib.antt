@@ -35,6 +35,8 @@ pub mod TieRule
 pub mod FirstHeaviest
 -- counts with keys are a semiring
 pub mod Keys
+-- the best of several families: their number, and the largest key
+pub mod BestOf
 -- a row's count and the key of its first heaviest tree
 pub mod Best
 -- counts stopped at a limit

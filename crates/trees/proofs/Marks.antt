@@ -1,5 +1,6 @@
 -- A set of clusters as one number, and its weight: `marksIn` and `weightIn` over a test of clusters.
 --     marks-lt, marks-ext, marks-none, marks-join     a bound, equal tests, no member, two families without a common member
+--     markIn cs c                     the mark of one cluster among those of a table
 --     marks-one, marks-one-mem        the mark of one cluster is the power of two of its place
 --     marks-inj                       equal marks have equal members
 --     no-carry                        the low digits of two families without a common member add up without a carry
@@ -27,6 +28,9 @@ use Rattle.trees.specs.Rows.{Row, clustersOf}
 use Rattle.trees.specs.Heaviest.{weightIn, weightOf}
 use Rattle.trees.specs.Result.{marksIn, marksOf}
 use Rattle.trees.proofs.Families.{Fam, join, one, Disj}
+
+abbrev pub markIn : List ℕ → ℕ → ℕ
+markIn cs c = marksIn cs (one c)
 
 pub marks-lt : (cs : List ℕ) (p : Fam) → marksIn cs p < 2 ^ length cs
 marks-lt [] p = omega arith

@@ -12,17 +12,18 @@ use mathlib.Core.List.{List·Memᴰ as Mem, List·Memᴰ·head as here, List·Me
 use Prim.Native.Nat.{ℕ}
 use lib.Dec.{T}
 use Rattle.laws.specs.Cluster.{single}
-use Rattle.laws.specs.Lists.{sublists, bind, Once}
+use Rattle.laws.specs.Lists.{bind, Once}
 use Rattle.laws.proofs.Keep.{mem-bind, mem-of-bind}
-use Rattle.laws.proofs.Once.{once-keep, once-append, once-map, once-bind, once-of-map, map-inj}
-use Rattle.laws.proofs.Sublists.{mem-of-sublist, sublists-once, sublist-is-keep}
+use Rattle.laws.proofs.Once.{once-append, once-map, once-bind, once-of-map, map-inj}
+use Rattle.laws.proofs.Sublists.{sublist-is-keep}
 use Rattle.trees.specs.Rows.{cl}
-use Rattle.trees.specs.Tuple.{isTuple, tuples}
+use Rattle.trees.specs.Tuple.{tuples}
 use Rattle.trees.proofs.Families.{Fam, join, one, cross, except, mem-cross, mem-of-cross, join-one, join-one-inj}
 use Rattle.trees.proofs.TreeFacts.{Given, Tree}
+use Rattle.trees.proofs.Tuples.{tuple-mem, part-mem, tuples-once}
 use Rattle.trees.proofs.Cuts.{TreeEntry, Right, combos, Cut, combos→, →combos, combos-once}
 pub use Rattle.trees.proofs.Beneath.{Beneath}
-use Rattle.trees.proofs.Beneath.{TupleOf, sub-tuple, tuple-of}
+use Rattle.trees.proofs.Beneath.{TupleOf, tuple-of}
 use Rattle.trees.proofs.JoinTree.{joined, cut-other, child→part, part→child, join-tree}
 pub use Rattle.trees.proofs.SingleTree.{single-right}
 use Rattle.trees.proofs.TreeTuple.{isChild, tupleIn, tuple-found, tree-cut}
@@ -38,10 +39,13 @@ module _ (G : Given) (C : ℕ) (es : List TreeEntry) (beneath : Beneath G C es) 
   abbrev pub trees : List Fam
   trees = cross (one C ∷ []) (bind (combos G) (tuples (G .degree) C es))
 
+  rows-once : Once es
+  rows-once = once-of-map cl es (beneath .once)
+
   -- ---- a tuple and a combination
 
   tuple : (τ : List TreeEntry) → Mem τ τs → TupleOf G C τ
-  tuple τ m = tuple-of G C es τ m beneath
+  tuple τ m = tuple-of G C es τ beneath m
 
   cut-of : (τ : List TreeEntry) → Mem τ τs → (U : Fam) → Mem U (combos G τ) → Cut G τ U
   cut-of τ m U k = combos→ G τ (tuple τ m .facts .apart) (tuple τ m .right) U k
@@ -49,7 +53,7 @@ module _ (G : Given) (C : ℕ) (es : List TreeEntry) (beneath : Beneath G C es) 
   -- the tuple can be read off the tree
   tuple-is : (τ : List TreeEntry) → Mem τ τs → (U : Fam) → Mem U (combos G τ) → τ ≡ tupleIn G C es (joined C U)
   tuple-is τ m U k =
-      sublist-is-keep (isChild G C es (joined C U)) es τ (once-of-map cl es (beneath .once)) (sub-tuple G C es τ m)
+      sublist-is-keep (isChild G C es (joined C U)) es τ rows-once (tuple-mem (G .degree) C es τ m .0)
       (λ e _ j. part→child G C τ (tuple τ m) U cut e j) part-of
     where
       cut : Cut G τ U
@@ -58,7 +62,7 @@ module _ (G : Given) (C : ℕ) (es : List TreeEntry) (beneath : Beneath G C es) 
       part-of : (e : TreeEntry) → Mem e es → T (isChild G C es (joined C U) e) → Mem e τ
       part-of e j h =
           let q = Memᴰ·of-map cl τ (child→part G C τ (tuple τ m) U cut (cl e) h) in
-          let row = mem-of-sublist es τ (sub-tuple G C es τ m) (q .0) (q .1) in
+          let row = part-mem (G .degree) C es τ m (q .0) (q .1) in
           Memᴰ·cast (map-inj cl es (beneath .once) e (q .0) j row (sym (q .2))) (q .1)
 
   same-tuple : (τ σ : List TreeEntry) (U : Fam) → Mem τ τs → Mem σ τs → Mem U (combos G τ) → Mem U (combos G σ) → τ ≡ σ
@@ -87,8 +91,7 @@ module _ (G : Given) (C : ℕ) (es : List TreeEntry) (beneath : Beneath G C es) 
 
   inner-once : Once inner
   inner-once =
-      once-bind (combos G) τs
-      (once-keep (λ (τ : List TreeEntry). isTuple (G .degree) C (map cl τ)) (sublists es) (sublists-once es (once-of-map cl es (beneath .once))))
+      once-bind (combos G) τs (tuples-once (G .degree) C es rows-once)
       (λ τ m. combos-once G τ (tuple τ m .facts .apart) (tuple τ m .right))
       same-tuple
 

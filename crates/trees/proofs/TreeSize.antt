@@ -3,44 +3,38 @@
 --     weight-measure       the absolute weight of a family is a measure of it
 --     tree-laminar         the members of a tree nest
 --     tree-length-le, tree-weight-le           the bounds for trees as families
---     treesOn-length-le, treesOn-weight-le     the bounds for trees as lists
+--     treesOn-length-le, treesOn-weight-le     the bounds for the trees of the definition
 -- Assumes nothing.
-use mathlib.Core.Path.{_≡_, refl, ap, _∙_}
+use mathlib.Core.Path.{_≡_, refl, sym, ap, _∙_}
 use mathlib.Core.Logic.{_⊎_, inl, inr, _≢_}
-use mathlib.Core.Bool.{Bool, true, false, not, _&&_, _||_}
+use mathlib.Core.Bool.{not, _&&_, _||_}
 use mathlib.Core.List.{List, [], _∷_, Memᴰ·map}
 use mathlib.Core.List.{List·Memᴰ as Mem, List·Memᴰ·head as here, List·Memᴰ·tail as there}
-use Prim.Native.Nat.{ℕ, _+_, _-_, _*_, _≤_, zero-le}
+use Prim.Native.Nat.{ℕ, _+_, _*_, _≤_, zero-le}
 use native.Mathlib.Omega.{arith}
-use lib.Dec.{T, T-not, leb}
+use lib.Dec.{T, T-not}
 use lib.IntN.{natAbs, +ℤ-idr}
 use lib.ListN.{length}
-use Rattle.laws.specs.Cluster.{inside, nested, single, taxa, size}
-use Rattle.laws.specs.Lists.{keep, every, elem, sublists, Once}
+use Rattle.laws.specs.Cluster.{size}
+use Rattle.laws.specs.Lists.{keep}
 use Rattle.laws.proofs.Falling.{Falling, sublist-is-elem}
 use Rattle.laws.proofs.Integers.{abs-sum-le}
-use Rattle.laws.proofs.Keep.{mem-of-keep, every→, elem→}
 use Rattle.laws.proofs.Laminar.{Measure, count-measure, Laminar, laminar-le}
-use Rattle.laws.proofs.Sublists.{mem-of-sublist}
-use Rattle.laws.proofs.Tests.{T-and, T-dec, T-true, T-false}
+use Rattle.laws.proofs.Tests.{T-and, T-dec, T-true, T-false, or-split}
 use Rattle.trees.specs.Heaviest.{weightIn, weightOf}
 use Rattle.trees.specs.Rows.{Row, clustersOf}
-use Rattle.trees.specs.Tree.{children, isTree, treesOn}
+use Rattle.trees.specs.Tree.{treesOn}
 use Rattle.trees.proofs.Families.{Fam}
 use Rattle.trees.proofs.Marks.{weight-ext, weight-none, weight-join}
 use Rattle.trees.proofs.TreeFacts.{Given, Tree}
+use Rattle.trees.proofs.TreeTest.{famOf, tree-of}
 
 -- ---- the weight of a family
-
-halves : (a b : Bool) → a ≡ (a && b || a && not b)
-halves true true = refl
-halves true false = refl
-halves false b = refl
 
 weight-split : (rs : List Row) (S p : Fam)
     → natAbs (weightIn rs S) ≤ natAbs (weightIn rs (λ c. S c && p c)) + natAbs (weightIn rs (λ c. S c && not (p c)))
 weight-split rs S p =
-    rw (weight-ext rs S (λ c. S c && p c || S c && not (p c)) (λ r _. halves (S (r .cluster)) (p (r .cluster)))
+    rw (weight-ext rs S (λ c. S c && p c || S c && not (p c)) (λ r _. sym (or-split (S (r .cluster)) (p (r .cluster))))
     ∙ weight-join rs (λ c. S c && p c) (λ c. S c && not (p c)) apart)
     (abs-sum-le (weightIn rs (λ c. S c && p c)) (weightIn rs (λ c. S c && not (p c))))
   where
@@ -95,55 +89,12 @@ module _ (G : Given) (C : ℕ) (S : Fam) (tree : Tree G C S) where
 
 -- ---- trees as lists
 
--- what the test of a tree says of its members and of any two of them
-test→ : (w d C : ℕ) (xs : List ℕ) → T (isTree w d C xs)
-    → T (every (λ (m : ℕ). inside m C) xs) × T (elem C xs) × T (every (λ (a : ℕ). every (λ (b : ℕ). nested a b) xs) xs)
-unfolding isTree
-test→ w d C xs h =
-    let q = T-and (in-C && elem C xs && leaves && nests) degrees h in
-    let r = T-and (in-C && elem C xs && leaves) nests (q .0) in
-    let s = T-and (in-C && elem C xs) leaves (r .0) in
-    let t = T-and in-C (elem C xs) (s .0) in
-    (t .0, t .1, r .1)
-  where
-    in-C : Bool
-    in-C = every (λ (m : ℕ). inside m C) xs
+module _ (G : Given) (C : ℕ) (xs : List ℕ) (m : Mem xs (treesOn (G .width) (G .degree) (G .listed) C)) where
+  pub treesOn-length-le : length xs + 1 ≤ 2 * size C
+  treesOn-length-le =
+      let t = tree-of G C xs m in
+      let h = tree-length-le G C (famOf G xs) (t .1) in
+      omega (arith, ap length (sublist-is-elem (G .listed) xs (G .once) (t .0)))
 
-    leaves : Bool
-    leaves = every (λ (u : ℕ). not (inside u C) || elem u xs) (taxa w)
-
-    nests : Bool
-    nests = every (λ (a : ℕ). every (λ (b : ℕ). nested a b) xs) xs
-
-    degrees : Bool
-    degrees = every (λ (m : ℕ). single m || leb (length (children xs m)) (d - 1)) xs
-
-module _ (w d : ℕ) (L : List ℕ) (nonzero : (c : ℕ) → Mem c L → c ≢ 0) where
-  treesOn→ : (C : ℕ) (xs : List ℕ) → Mem xs (treesOn w d L C) → Mem xs (sublists L) × (C ≢ 0) × Laminar L C (λ c. elem c xs)
-  unfolding treesOn
-  treesOn→ C xs m =
-      let k = mem-of-keep (isTree w d C) (sublists L) m in
-      let t = test→ w d C xs (k .1) in
-      let inL : (c : ℕ) → T (elem c xs) → Mem c L = λ c h. mem-of-sublist L xs (k .0) c (elem→ c xs h) in
-      let all = every→ (λ (x : ℕ). every (λ (y : ℕ). nested x y) xs) xs (t .2) in (
-        k .0,
-        nonzero C (inL C (t .1)),
-        record {
-          listed = inL;
-          nonzero = λ c h. nonzero c (inL c h);
-          within = λ c h. every→ (λ (x : ℕ). inside x C) xs (t .0) c (elem→ c xs h);
-          nest = λ a b h i. every→ (λ (y : ℕ). nested a y) xs (all a (elem→ a xs h)) b (elem→ b xs i);
-        },
-      )
-
-  pub treesOn-length-le : Once L → (C : ℕ) (xs : List ℕ) → Mem xs (treesOn w d L C) → length xs + 1 ≤ 2 * size C
-  treesOn-length-le once C xs m =
-      let q = treesOn→ C xs m in
-      let h = laminar-le L (λ U. length (keep U L)) 1 (count-measure L once) C (q .1) (λ c. elem c xs) (q .2) in
-      omega (arith, ap length (sublist-is-elem L xs once (q .0)))
-
-  pub treesOn-weight-le : (rs : List Row) (M : ℕ) → Falling (clustersOf rs) → Within M rs
-      → (C : ℕ) (xs : List ℕ) → Mem xs (treesOn w d L C) → natAbs (weightOf rs xs) + M ≤ 2 * M * size C
-  treesOn-weight-le rs M f h C xs m =
-      let q = treesOn→ C xs m in
-      laminar-le L (λ U. natAbs (weightIn rs U)) M (weight-measure M rs f h) C (q .1) (λ c. elem c xs) (q .2)
+  pub treesOn-weight-le : (rs : List Row) (M : ℕ) → Falling (clustersOf rs) → Within M rs → natAbs (weightOf rs xs) + M ≤ 2 * M * size C
+  treesOn-weight-le rs M f h = tree-weight-le G C (famOf G xs) (tree-of G C xs m .1) rs M f h

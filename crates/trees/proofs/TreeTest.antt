@@ -1,5 +1,8 @@
 -- The definition's test of a set, and a tree as facts about a family: the same trees, as sublists of the listed clusters.
 --     tree→test, test→tree        out of the facts into the test, and back
+--     famOf xs                    a set of clusters as a family
+--     tree-of, list-of            a tree of the definition as a family, and a family as a tree of the definition
+--     trees-once                  no tree of the definition is listed twice
 --     right-list, list-right      a list that holds the families that are trees, and the trees of the definition
 --     right-count                 both have the same number
 -- Assumes nothing.
@@ -11,11 +14,12 @@ use Prim.Native.Nat.{ℕ, _-_, _^_, _<_}
 use lib.Dec.{T, leb, T-not, not-T}
 use lib.ListN.{length, length-map}
 use Rattle.laws.specs.Cluster.{inside, strict, nested, single, taxa}
-use Rattle.laws.specs.Lists.{keep, every, some, elem, sublists}
+use Rattle.laws.specs.Lists.{keep, every, some, elem, sublists, Once}
+use Rattle.laws.proofs.Falling.{sublist-is-elem}
 use Rattle.laws.proofs.Tests.{T-and, and-T, T-or, or-l, or-r, T-dec}
 use Rattle.laws.proofs.Keep.{mem-keep, mem-of-keep, every→, →every, keep-ext, keep-keep, some-keep, elem→, →elem}
 use Rattle.laws.proofs.Once.{once-keep, once-map, once-length}
-use Rattle.laws.proofs.Sublists.{sublists-keep, mem-of-sublist, sublists-once, sublist-is-keep}
+use Rattle.laws.proofs.Sublists.{sublists-keep, mem-of-sublist, sublists-once}
 use Rattle.laws.proofs.Taxa.{taxa-mem, mem-taxa}
 use Rattle.trees.specs.Tree.{children, isTree, treesOn}
 use Rattle.trees.proofs.Families.{Fam, fam-ext}
@@ -82,17 +86,19 @@ module _ (G : Given) where
     tree→test tr = passes G C members (record {
       within = →every (λ (m : ℕ). inside m C) members (λ m k. tr .within m (S-of m k));
       top = →elem C members (mem-keep S (G .listed) (tr .listed C (tr .top)) (tr .top));
-      leaves = →every (λ (u : ℕ). not (inside u C) || elem u members) (taxa (G .width)) (λ u k. leaf u (mem-taxa (G .width) u k) (T-dec (inside u C)));
+      leaves = →every (λ (u : ℕ). not (inside u C) || elem u members) (taxa (G .width))
+          (λ u k. leaf u (mem-taxa (G .width) u k) (T-dec (inside u C)));
       laminar = →every (λ (a : ℕ). every (λ (b : ℕ). nested a b) members) members
           (λ a k. →every (λ (b : ℕ). nested a b) members (λ b j. tr .laminar a b (S-of a k) (S-of b j)));
-      bounded = →every (isFew G C members) members
-          (λ m k. subst (λ (x : List ℕ). T (single m || leb (length x) (G .degree - 1))) (sym (kids-children S m)) (tr .bounded m (S-of m k)));
+      bounded = →every (isFew G C members) members (λ m k.
+          subst (λ (x : List ℕ). T (single m || leb (length x) (G .degree - 1))) (sym (kids-children S m)) (tr .bounded m (S-of m k)));
     })
       where
         S-of : (m : ℕ) → Mem m members → T (S m)
         S-of m k = mem-of-keep S (G .listed) k .1
 
-        leaf : (u : ℕ) → (t : ℕ) × (t < G .width) × (u ≡ 2 ^ t) → T (inside u C) ⊎ (T (inside u C) → ⊥) → T (not (inside u C) || elem u members)
+        leaf : (u : ℕ) → (t : ℕ) × (t < G .width) × (u ≡ 2 ^ t) → T (inside u C) ⊎ (T (inside u C) → ⊥)
+            → T (not (inside u C) || elem u members)
         leaf u q (inr n) = or-l (not (inside u C)) (elem u members) (not-T (inside u C) n)
         leaf u q (inl i) =
             let t : T (S (2 ^ q .0)) = tr .leaves (q .0) (q .1) (subst (λ (x : ℕ). T (inside x C)) (q .2) i) in
@@ -100,8 +106,8 @@ module _ (G : Given) where
             or-r (not (inside u C)) (elem u members) (→elem u members (mem-keep S (G .listed) (tr .listed u s) s))
 
     pub test→tree : ((c : ℕ) → T (S c) → Mem c (G .listed)) → T (isTree (G .width) (G .degree) C members) → Tree G C S
-    test→tree li h = record {
-      listed = li;
+    test→tree all h = record {
+      listed = all;
       within = λ c x. every→ (λ (m : ℕ). inside m C) members (p .within) c (is-member c x);
       top = mem-of-keep S (G .listed) (elem→ C members (p .top)) .1;
       leaves = λ t l i. leaf t i (T-or (not (inside (2 ^ t) C)) (elem (2 ^ t) members)
@@ -116,7 +122,7 @@ module _ (G : Given) where
         p = passed G C members h
 
         is-member : (c : ℕ) → T (S c) → Mem c members
-        is-member c x = mem-keep S (G .listed) (li c x) x
+        is-member c x = mem-keep S (G .listed) (all c x) x
 
         leaf : (t : ℕ) → T (inside (2 ^ t) C) → T (not (inside (2 ^ t) C)) ⊎ T (elem (2 ^ t) members) → T (S (2 ^ t))
         leaf t i (inl n) = absurd (T-not (inside (2 ^ t) C) n i)
@@ -126,24 +132,27 @@ module _ (G : Given) where
   abbrev pub famOf : List ℕ → Fam
   famOf xs = λ c. elem c xs
 
-  pub fam-keep : (xs : List ℕ) → Mem xs (sublists (G .listed)) → xs ≡ keep (famOf xs) (G .listed)
-  fam-keep xs m = sublist-is-keep (famOf xs) (G .listed) xs (G .once) m (λ c k j. →elem c xs j) (λ c k j. elem→ c xs j)
-
   module _ (C : ℕ) where
     abbrev test : List ℕ → Bool
     test = isTree (G .width) (G .degree) C
 
-    pub tree-of : (xs : List ℕ) → Mem xs (treesOn (G .width) (G .degree) (G .listed) C) → Mem xs (sublists (G .listed)) × Tree G C (famOf xs)
+    abbrev trees : List (List ℕ)
+    trees = treesOn (G .width) (G .degree) (G .listed) C
+
+    pub tree-of : (xs : List ℕ) → Mem xs (treesOn (G .width) (G .degree) (G .listed) C)
+        → Mem xs (sublists (G .listed)) × Tree G C (famOf xs)
     unfolding treesOn
     tree-of xs m =
         let q = mem-of-keep test (sublists (G .listed)) m in
-        (q .0, test→tree C (famOf xs) (λ c h. mem-of-sublist (G .listed) xs (q .0) c (elem→ c xs h)) (subst (λ (z : List ℕ). T (test z)) (fam-keep xs (q .0)) (q .1)))
+        let whole = sublist-is-elem (G .listed) xs (G .once) (q .0) in
+        let passes = subst (λ (z : List ℕ). T (test z)) whole (q .1) in
+        (q .0, test→tree C (famOf xs) (λ c h. mem-of-sublist (G .listed) xs (q .0) c (elem→ c xs h)) passes)
 
     pub list-of : (S : Fam) → Tree G C S → Mem (keep S (G .listed)) (treesOn (G .width) (G .degree) (G .listed) C)
     unfolding treesOn
     list-of S tr = mem-keep test (sublists (G .listed)) (sublists-keep S (G .listed)) (tree→test C S tr)
 
-    pub trees-once : (w d : ℕ) → Rattle.laws.specs.Lists.Once (treesOn w d (G .listed) C)
+    pub trees-once : (w d : ℕ) → Once (treesOn w d (G .listed) C)
     unfolding treesOn
     trees-once w d = once-keep (isTree w d C) (sublists (G .listed)) (sublists-once (G .listed) (G .once))
 
@@ -158,7 +167,7 @@ module _ (G : Given) where
       pub right-count : length ts ≡ length (treesOn (G .width) (G .degree) (G .listed) C)
       right-count =
           sym (length-map ts as-list)
-          ∙ once-length (map as-list ts) (treesOn (G .width) (G .degree) (G .listed) C) (once-map as-list ts (r .once) inj) (trees-once (G .width) (G .degree)) to from
+          ∙ once-length (map as-list ts) trees (once-map as-list ts (r .once) inj) (trees-once (G .width) (G .degree)) to from
         where
           as-list : Fam → List ℕ
           as-list S = keep S (G .listed)
@@ -169,8 +178,8 @@ module _ (G : Given) where
           inj : (S U : Fam) → Mem S ts → Mem U ts → as-list S ≡ as-list U → S ≡ U
           inj S U m k e = fam-ext S U (part S U m e) (part U S k (sym e))
 
-          to : (xs : List ℕ) → Mem xs (map as-list ts) → Mem xs (treesOn (G .width) (G .degree) (G .listed) C)
+          to : (xs : List ℕ) → Mem xs (map as-list ts) → Mem xs trees
           to xs m = let q = Memᴰ·of-map as-list ts m in Memᴰ·cast (sym (q .2)) (list-right (q .0) (q .1))
 
-          from : (xs : List ℕ) → Mem xs (treesOn (G .width) (G .degree) (G .listed) C) → Mem xs (map as-list ts)
-          from xs m = Memᴰ·cast (fam-keep xs (tree-of xs m .0)) (Memᴰ·map as-list (right-list xs m))
+          from : (xs : List ℕ) → Mem xs trees → Mem xs (map as-list ts)
+          from xs m = Memᴰ·cast (sublist-is-elem (G .listed) xs (G .once) (tree-of xs m .0)) (Memᴰ·map as-list (right-list xs m))

@@ -4,22 +4,28 @@
 --     apart-of-tuple                 two parts of a tuple are one part, or apart
 --     apart-all                      pairwise apart, from a list that doesn't repeat
 --     part-inside, part-other        a part lies inside the whole, and isn't the whole
+--     tuple-mem, part-mem            a tuple of entries is a sublist of them that passes the test, and its parts are among them
+--     scored-part                    so a part of a tuple of scored rows is a scored row
+--     tuples-once                    no tuple of entries is listed twice
 -- Assumes nothing.
 use mathlib.Core.Path.{_≡_, refl, sym, subst}
 use mathlib.Core.Logic.{_⊎_, inl, inr, _≢_}
 use mathlib.Core.Bool.{_&&_}
-use mathlib.Core.List.{List, [], _∷_, Memᴰ·cast}
+use mathlib.Core.List.{List, [], _∷_, map, Memᴰ·cast}
 use mathlib.Core.List.{List·Memᴰ as Mem, List·Memᴰ·head as here, List·Memᴰ·tail as there, List·Memᴰ·not-nil as mem-nil}
 use Prim.Native.Nat.{ℕ, _-_, _≤_}
 use native.Mathlib.Omega.{arith}
 use lib.Dec.{T, eqb, leb, eqb→eq, leb→le, le→leb}
 use lib.ListN.{length}
 use Rattle.laws.specs.Cluster.{inside, apart, unionOf}
-use Rattle.laws.specs.Lists.{every, Once}
+use Rattle.laws.specs.Lists.{keep, every, sublists, Once}
 use Rattle.laws.proofs.Tests.{T-and, and-T, eq→eqb}
-use Rattle.laws.proofs.Keep.{every→, →every}
+use Rattle.laws.proofs.Keep.{mem-of-keep, every→, →every}
+use Rattle.laws.proofs.Once.{once-keep}
+use Rattle.laws.proofs.Sublists.{mem-of-sublist, sublists-once}
 use Rattle.laws.proofs.Cluster.{inside-refl, apart-sym, apart-of-inside, zero-of-apart, inside-unionOf}
-use Rattle.trees.specs.Tuple.{allApart, isTuple}
+use Rattle.trees.specs.Rows.{Entry, cl, sc}
+use Rattle.trees.specs.Tuple.{allApart, isTuple, tuples}
 
 pub record TupleFacts (d C : ℕ) (cs : List ℕ) : Type 0 where
   pub two : 2 ≤ length cs
@@ -94,3 +100,18 @@ part-other d C (x ∷ y ∷ ys) nz h c m e = go m
     go : Mem c cs → ⊥
     go (here p) = none y (there (here refl)) (rw p (apart-first x (y ∷ ys) all y (here refl)))
     go (there k) = none x (here refl) (apart-sym x c (apart-first x (y ∷ ys) all c k))
+
+-- ---- tuples of entries
+
+module _ {A : Type 0} (d C : ℕ) where
+  pub tuple-mem : (es τ : List (Entry A)) → Mem τ (tuples d C es) → Mem τ (sublists es) × T (isTuple d C (map cl τ))
+  tuple-mem es τ m = mem-of-keep (λ (σ : List (Entry A)). isTuple d C (map cl σ)) (sublists es) m
+
+  pub part-mem : (es τ : List (Entry A)) → Mem τ (tuples d C es) → (e : Entry A) → Mem e τ → Mem e es
+  part-mem es τ m = mem-of-sublist es τ (tuple-mem es τ m .0)
+
+  pub scored-part : (t τ : List (Entry A)) → Mem τ (tuples d C (keep sc t)) → (e : Entry A) → Mem e τ → Mem e t × T (sc e)
+  scored-part t τ m e k = mem-of-keep sc t (part-mem (keep sc t) τ m e k)
+
+  pub tuples-once : (es : List (Entry A)) → Once es → Once (tuples d C es)
+  tuples-once es o = once-keep (λ (τ : List (Entry A)). isTuple d C (map cl τ)) (sublists es) (sublists-once es o)

@@ -10,15 +10,15 @@
 use mathlib.Core.Path.{_≡_, refl, sym, ap, ap₂, _∙_, subst}
 use mathlib.Core.List.{List, [], _∷_, _++_, map, append-nil, append-assoc, reverse, List·Memᴰ as Mem}
 use Prim.Native.Nat.{ℕ, _-_, _<_}
-use Rattle.laws.specs.Lists.{keep, bind, sublists, Once}
+use Rattle.laws.specs.Lists.{keep, bind, Once}
 use Rattle.laws.proofs.Keep.{mem-of-keep, keep-map}
 use Rattle.laws.proofs.Once.{once-keep, once-of-map}
-use Rattle.laws.proofs.Sublists.{sublists-once}
 use Rattle.laws.proofs.Descends.{Descends, descends-once}
 use Rattle.laws.proofs.Appended.{bind-append, map-reverse, mem-reverse, mem-of-reverse, once-reverse}
 use Rattle.trees.specs.Rows.{Entry, cl, sc}
-use Rattle.trees.specs.Tuple.{isTuple, tuples}
+use Rattle.trees.specs.Tuple.{tuples}
 use Rattle.trees.proofs.Kind.{Kind, prodK, overTuples}
+use Rattle.trees.proofs.Tuples.{tuples-once}
 use Rattle.trees.proofs.Covers.{coversOf, tuples-are-covers, clusters-map, coversOf-map}
 use Rattle.trees.proofs.Search.{search}
 use Rattle.trees.proofs.SearchOrder.{Summing, search-in-order}
@@ -94,8 +94,5 @@ module _ {A : Type 0} where
       all : List (List (Entry A))
       all = tuples d C (keep sc es)
 
-      rows : Once (keep sc es)
-      rows = once-keep sc es (once-of-map cl es (descends-once (map cl es) h))
-
       no-two : Once all
-      no-two = once-keep (λ (τ : List (Entry A)). isTuple d C (map cl τ)) (sublists (keep sc es)) (sublists-once (keep sc es) rows)
+      no-two = tuples-once d C (keep sc es) (once-keep sc es (once-of-map cl es (descends-once (map cl es) h)))

@@ -1,8 +1,11 @@
 -- The row worked out by the paper's formulas from the fields beneath is the fields of the row worked out in true counts and keys.
+--     markIn                  the mark of one cluster (passed on from `Marks.antt`)
+--     lengthIf b n            n, or 0 where a row has no tuples
 --     trueResult d cs r t     the row length, and the count with the key of the first heaviest, in true counts
+--     AllCounted t            each true count of t is one or more, where there is a tree
 --     key-is                  the paper's choice among tuples is the first key
 --     worked-encode           the theorem
---     counted-value           true counts are one or more, where there is a tree
+--     counted-plus, counted-times, counted-value     sums, products and rows keep that
 -- Assumes nothing.
 use mathlib.Core.Path.{_≡_, refl, sym, ap, ap₂, _∙_}
 use mathlib.Core.Logic.{_⊎_, inl, inr}
@@ -18,29 +21,28 @@ use lib.IntN.{_+ℤ_}
 use lib.ListN.{length, length-map}
 use Rattle.laws.specs.Cluster.{single}
 use Rattle.laws.specs.Limits.{Width}
-use Rattle.laws.specs.Lists.{keepIf, keep, sublists}
+use Rattle.laws.specs.Lists.{keepIf, keep}
 use Rattle.laws.proofs.Tests.{T-false}
-use Rattle.laws.proofs.Keep.{keep-map, mem-of-keep}
-use Rattle.laws.proofs.Sublists.{mem-of-sublist}
-use Rattle.trees.specs.Rows.{Row, isScored, Entry, cl, sc}
-use Rattle.trees.specs.Tuple.{isTuple, tuples}
-use Rattle.trees.specs.Result.{Result, blank, countField, markField, marksIn}
+use Rattle.laws.proofs.Keep.{keep-map}
+use Rattle.trees.specs.Rows.{Row, isScored, Entry, sc}
+use Rattle.trees.specs.Tuple.{tuples}
+use Rattle.trees.specs.Result.{Result, blank, countField, markField}
 use Rattle.trees.specs.Rescored.{counted, isLive, Key, keyOf, firstOfKeys, firstKey, joined, alone, together, workedOut}
-use Rattle.trees.proofs.Families.{one}
+pub use Rattle.trees.proofs.Marks.{markIn}
 use Rattle.trees.proofs.Kind.{Kind, prodK, overTuples, valueIf, value, mapE, tuples-map, hom-sum}
 use Rattle.trees.proofs.Keys.{joinK, Sol, plusSol, timesSol, countKind, solKind}
-use Rattle.trees.proofs.Capped.{Res, encodeSol, encode, trueCount, Counted, second, past, count-small, count-large, count-hom, fieldsT, trueTimes, trueSum, many-is}
-
--- the mark of one cluster among those of a table
-abbrev pub markIn : List ℕ → ℕ → ℕ
-markIn cs c = marksIn cs (one c)
+use Rattle.trees.proofs.Tuples.{scored-part}
+use Rattle.trees.proofs.Capped.{Res, encodeSol, encode, trueCount, Counted, second, past, count-small, count-large}
+use Rattle.trees.proofs.Capped.{count-hom, fieldsT, trueTimes, trueSum, many-is}
 
 abbrev pub lengthIf : Bool → ℕ → ℕ
 lengthIf b n = cond b n 0
 
 abbrev pub trueResult : ℕ → List ℕ → Row → List (Entry Res) → Res
-trueResult d cs r t =
-    (lengthIf (isScored r && not (single (r .cluster))) (length (tuples d (r .cluster) (counted t))), value (solKind (markIn cs)) d r (map second t))
+trueResult d cs r t = (
+  lengthIf (isScored r && not (single (r .cluster))) (length (tuples d (r .cluster) (counted t))),
+  value (solKind (markIn cs)) d r (map second t),
+)
 
 abbrev pub AllCounted : List (Entry Res) → Type 0
 AllCounted t = (e : Entry Res) → Mem e t → Counted (e .val .1)
@@ -76,7 +78,8 @@ live-times : (b : Bool) (k l : Key) → liveKey b (joinK k l) ≡ keyTimes k (li
 live-times true k l = refl
 live-times false k l = refl
 
-live-plus : (b : Bool) (τ : List (Entry Result)) (τs : List (List (Entry Result))) → firstKey (map keyOf (keepIf b τ τs)) ≡ keyPlus (liveKey b (keyOf τ)) (firstKey (map keyOf τs))
+live-plus : (b : Bool) (τ : List (Entry Result)) (τs : List (List (Entry Result)))
+    → firstKey (map keyOf (keepIf b τ τs)) ≡ keyPlus (liveKey b (keyOf τ)) (firstKey (map keyOf τs))
 live-plus true τ τs = refl
 live-plus false τ τs = refl
 
@@ -98,9 +101,14 @@ module _ (limit : ℕ) (pos-limit : 1 ≤ limit) (bit : ℕ → ℕ) where
       P : Option Sol
       P = prodK (solKind bit) (map second τ)
 
-      at : (v : Option Sol) → Counted v → liveKey (isLive (F τ)) (keyOf (F τ)) ≡ keyPart P
-          → liveKey (not (eqb (encodeSol limit (e .val .0) v .count) 0) && isLive (F τ)) (joinK (encodeSol limit (e .val .0) v .best, encodeSol limit (e .val .0) v .members) (keyOf (F τ)))
-          ≡ keyPart (timesSol v P)
+      -- the child with the result v, in front of τ
+      live : Option Sol → Bool
+      live v = not (eqb (encodeSol limit (e .val .0) v .count) 0) && isLive (F τ)
+
+      key : Option Sol → Key
+      key v = joinK (encodeSol limit (e .val .0) v .best, encodeSol limit (e .val .0) v .members) (keyOf (F τ))
+
+      at : (v : Option Sol) → Counted v → liveKey (isLive (F τ)) (keyOf (F τ)) ≡ keyPart P → liveKey (live v) (key v) ≡ keyPart (timesSol v P)
       at none h ih = refl
       at (some x) h ih =
           ap (λ (b : Bool). liveKey (b && isLive (F τ)) (joinK (x .1) (keyOf (F τ)))) (count-live (x .0) h)
@@ -121,7 +129,8 @@ module _ (limit : ℕ) (pos-limit : 1 ≤ limit) (bit : ℕ → ℕ) where
   prod-true [] = refl
   prod-true (e ∷ τ) = ap (λ (n : ℕ). trueCount (e .val .1) * n) (prod-true τ)
 
-  sum-true : (τs : List (List (Entry Res))) → overTuples countKind (map (map (mapE trueCount)) (map (map second) τs)) ≡ trueSum limit pos-limit τs
+  sum-true : (τs : List (List (Entry Res)))
+      → overTuples countKind (map (map (mapE trueCount)) (map (map second) τs)) ≡ trueSum limit pos-limit τs
   sum-true [] = refl
   sum-true (τ ∷ τs) = ap₂ (λ (a b : ℕ). a + b) (prod-true τ) (sum-true τs)
 
@@ -147,10 +156,13 @@ module _ (W : Width) (pos-limit : 1 ≤ W .countMax) (d : ℕ) (cs : List ℕ) (
   found = overTuples K (map (map second) τs)
 
   tuple-counted : (τ : List (Entry Res)) → Mem τ τs → AllCounted τ
-  tuple-counted τ m e k =
-      c e (mem-of-keep sc t (mem-of-sublist (keep sc t) τ (mem-of-keep (λ (τ : List (Entry Res)). isTuple d (r .cluster) (map cl τ)) (sublists (keep sc t)) m .0) e k) .0)
+  tuple-counted τ m e k = c e (scored-part d (r .cluster) t τ m e k .0)
 
-  fields-are : tuples d (r .cluster) (keep sc (map (mapE (encode limit)) t)) ≡ fields
+  -- the same tuples, of rows with their fields and of rows with their true counts and keys
+  abbrev fieldTuples : List (List (Entry Result))
+  fieldTuples = tuples d (r .cluster) (keep sc (map (mapE (encode limit)) t))
+
+  fields-are : fieldTuples ≡ fields
   fields-are = ap (tuples d (r .cluster)) (keep-map (mapE (encode limit)) sc t) ∙ tuples-map (encode limit) d (r .cluster) (keep sc t)
 
   seconds-are : tuples d (r .cluster) (keep sc (map second t)) ≡ map (map second) τs
@@ -167,12 +179,12 @@ module _ (W : Width) (pos-limit : 1 ≤ W .countMax) (d : ℕ) (cs : List ℕ) (
     members = markIn cs (r .cluster) + x .1 .1;
   }
 
-  together-is : joined W cs r (length (tuples d (r .cluster) (keep sc (map (mapE (encode limit)) t)))) (tuples d (r .cluster) (keep sc (map (mapE (encode limit)) t)))
-      (firstKey (map keyOf (keep isLive (tuples d (r .cluster) (keep sc (map (mapE (encode limit)) t))))))
+  together-is : joined W cs r (length fieldTuples) fieldTuples (firstKey (map keyOf (keep isLive fieldTuples)))
       ≡ encodeSol limit (length τs) (timesSol (K .own r) (overTuples K (tuples d (r .cluster) (keep sc (map second t)))))
   together-is =
       ap (λ (σs : List (List (Entry Result))). joined W cs r (length σs) σs (firstKey (map keyOf (keep isLive σs)))) fields-are
-      ∙ ap₂ (λ (n : ℕ) (k : Option Key). joined W cs r n fields k) (length-map τs (fieldsT limit pos-limit)) (key-is limit pos-limit (markIn cs) τs tuple-counted)
+      ∙ ap₂ (λ (n : ℕ) (k : Option Key). joined W cs r n fields k) (length-map τs (fieldsT limit pos-limit))
+      (key-is limit pos-limit (markIn cs) τs tuple-counted)
       ∙ own-times (length τs) found (count-is limit pos-limit (markIn cs) τs)
       ∙ ap (λ (σs : List (List (Entry (Option Sol)))). encodeSol limit (length τs) (timesSol (K .own r) (overTuples K σs))) (sym seconds-are)
 
@@ -203,25 +215,29 @@ counted-times (some x) none h k = tt
 counted-times (some x) (some y) h k = one-le-mul h k
 
 module _ (bit : ℕ → ℕ) where
-  counted-prod : (τ : List (Entry (Option Sol))) → ((e : Entry (Option Sol)) → Mem e τ → Counted (e .val)) → Counted (prodK (solKind bit) τ)
+  abbrev E : Type 0
+  E = Entry (Option Sol)
+
+  counted-prod : (τ : List E) → ((e : E) → Mem e τ → Counted (e .val)) → Counted (prodK (solKind bit) τ)
   counted-prod [] c = le-refl 1
   counted-prod (e ∷ τ) c = counted-times (e .val) (prodK (solKind bit) τ) (c e (here refl)) (counted-prod τ (λ x m. c x (there m)))
 
-  counted-sum : (τs : List (List (Entry (Option Sol)))) → ((τ : List (Entry (Option Sol))) → Mem τ τs → Counted (prodK (solKind bit) τ)) → Counted (overTuples (solKind bit) τs)
+  counted-sum : (τs : List (List E)) → ((τ : List E) → Mem τ τs → Counted (prodK (solKind bit) τ)) → Counted (overTuples (solKind bit) τs)
   counted-sum [] c = tt
-  counted-sum (τ ∷ τs) c = counted-plus (prodK (solKind bit) τ) (overTuples (solKind bit) τs) (c τ (here refl)) (counted-sum τs (λ x m. c x (there m)))
+  counted-sum (τ ∷ τs) c =
+      counted-plus (prodK (solKind bit) τ) (overTuples (solKind bit) τs) (c τ (here refl)) (counted-sum τs (λ x m. c x (there m)))
 
-  pub counted-value : (d : ℕ) (r : Row) (t : List (Entry (Option Sol))) → ((e : Entry (Option Sol)) → Mem e t → Counted (e .val)) → Counted (value (solKind bit) d r t)
+  pub counted-value : (d : ℕ) (r : Row) (t : List (Entry (Option Sol))) → ((e : Entry (Option Sol)) → Mem e t → Counted (e .val))
+      → Counted (value (solKind bit) d r t)
   counted-value d r t c = go (isScored r) (single (r .cluster))
     where
-      es : List (Entry (Option Sol))
-      es = keep sc t
+      τs : List (List E)
+      τs = tuples d (r .cluster) (keep sc t)
 
-      each : (τ : List (Entry (Option Sol))) → Mem τ (tuples d (r .cluster) (keep sc t)) → Counted (prodK (solKind bit) τ)
-      each τ m = counted-prod τ (λ e k. c e (mem-of-keep sc t (mem-of-sublist (keep sc t) τ (mem-of-keep (λ (τ : List (Entry (Option Sol))). isTuple d (r .cluster) (map cl τ)) (sublists (keep sc t)) m .0) e k) .0))
+      each : (τ : List E) → Mem τ τs → Counted (prodK (solKind bit) τ)
+      each τ m = counted-prod τ (λ e k. c e (scored-part d (r .cluster) t τ m e k .0))
 
       go : (s b : Bool) → Counted (valueIf (solKind bit) s b d r t)
       go false b = tt
       go true true = le-refl 1
-      go true false =
-          counted-times (solKind bit .own r) (overTuples (solKind bit) (tuples d (r .cluster) (keep sc t))) (le-refl 1) (counted-sum (tuples d (r .cluster) (keep sc t)) each)
+      go true false = counted-times (solKind bit .own r) (overTuples (solKind bit) τs) (le-refl 1) (counted-sum τs each)
