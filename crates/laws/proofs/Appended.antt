@@ -1,14 +1,19 @@
--- Lists one behind another, and a list backward.
+-- Lists of images, lists one behind another, and a list backward.
+--     map-through                    images of images, as images
 --     bind-append                    the lists of `bind`, of two lists one behind the other
 --     map-reverse                    the images of a list backward
 --     mem-reverse, mem-of-reverse    it has the same elements
 --     once-reverse                   and none of them twice where the list has none twice
 -- Assumes nothing.
-use mathlib.Core.Path.{_≡_, refl, sym, ap, _∙_, subst}
-use mathlib.Core.List.{List, [], _∷_, _++_, map, append-assoc, reverse, reverseAux, reverse-cons, reverse-reverse}
+use mathlib.Core.Path.{_≡_, refl, sym, ap, _∙_, subst, fun-ext}
+use mathlib.Core.List.{List, [], _∷_, _++_, map, map-map, append-assoc, reverse, reverseAux, reverse-cons, reverse-reverse}
 use mathlib.Core.List.{List·Memᴰ as Mem, List·Memᴰ·head as here, List·Memᴰ·tail as there, List·Memᴰ·not-nil as mem-nil}
 use Rattle.laws.specs.Lists.{bind, Once}
 use Rattle.laws.proofs.Once.{once-append}
+
+module _ {A B C : Type 0} where
+  pub map-through : (g : A → B) (f : B → C) (h : A → C) → ((x : A) → f (g x) ≡ h x) → (l : List A) → map f (map g l) ≡ map h l
+  map-through g f h e l = map-map f g l ∙ ap (λ (k : A → C). map k l) (fun-ext e)
 
 module _ {A B : Type 0} (f : A → List B) where
   pub bind-append : (s t : List A) → bind f (s ++ t) ≡ bind f s ++ bind f t

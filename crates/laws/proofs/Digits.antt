@@ -1,8 +1,11 @@
 -- The digits of a number, and that they decide it. A cluster's digit t is 1 where taxon t is in it.
 --     digit c t          digit t of c
 --     Has c t            digit t is 1: c has taxon t
+--     digit-two, digit-ext     a digit is 0 or 1; numbers with the same digits are equal
 --     has-ext            numbers with the same taxa are equal
 --     and-has, has-and, or-has, has-or-l, has-or-r     what bitAnd and bitOr have
+--     xor-digit          the digits of bitXor
+--     not-has-zero       0 has no taxon
 --     has-pow, pow-has   a power of two has its own taxon, and no other
 --     has-lt             the taxa of a number below 2 ^ w are below w
 --     has-of-nonzero     a number that isn't 0 has a taxon

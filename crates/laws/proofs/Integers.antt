@@ -3,17 +3,16 @@
 --     up, dn                       the two parts
 --     eq-of-parts, sum-parts, abs-parts       equality, sums and absolute values by parts
 --     lt→parts, parts→lt, le→parts, parts→le  the tests `ltZ` and `leZ` by parts, both ways
---     eqZ, eqZ→, →eqZ              the test of equality
 --     ltZ-trans, ltZ-irrefl, ltZ-add, Tri, tri     a strict order that sums keep, any two compared
 --     abs-sum-le, mag-le-abs       absolute values of sums
 --     add-swap                     the first two of three change places
 -- Assumes nothing.
-use mathlib.Core.Path.{_≡_, refl, sym, ap, _∙_, subst}
+use mathlib.Core.Path.{_≡_, refl, sym, ap, _∙_}
 use mathlib.Core.Bool.{Bool, true, false}
 use Prim.Native.Nat.{ℕ, suc, _+_, _≤_, _<_}
 use native.Mathlib.Decide.{decLe}
 use native.Mathlib.Omega.{arith}
-use lib.Dec.{T, eqb, eqb→eq, eqb-refl, ltb, ltb→lt, lt→ltb, leb→le, le→leb}
+use lib.Dec.{T, ltb, ltb→lt, lt→ltb, leb→le, le→leb}
 use lib.IntN.{ℤ, pos, negsuc, natAbs, subℕ, _+ℤ_, +ℤ-comm, +ℤ-assoc}
 use lib.Signed.{mag, leZ, ltZ}
 use borrow.Author.Tests.{ltb-true, ltb-false}
@@ -109,24 +108,3 @@ tri a b = go (decLe (up a + dn b) (up b + dn a)) (decLe (up b + dn a) (up a + dn
     go (yes h) (yes k) = Tri.same (eq-of-parts a b (omega arith))
     go (yes h) (no k) = Tri.less (parts→lt a b (omega arith))
     go (no h) k = Tri.more (parts→lt b a (omega arith))
-
--- ---- the test of equality
-
-abbrev pub eqZ : ℤ → ℤ → Bool
-eqZ (pos a) (pos b) = eqb a b
-eqZ (pos a) (negsuc b) = false
-eqZ (negsuc a) (pos b) = false
-eqZ (negsuc a) (negsuc b) = eqb a b
-
-pub eqZ→ : (a b : ℤ) → T (eqZ a b) → a ≡ b
-eqZ→ (pos a) (pos b) h = ap pos (eqb→eq a b h)
-eqZ→ (pos a) (negsuc b) h = absurd h
-eqZ→ (negsuc a) (pos b) h = absurd h
-eqZ→ (negsuc a) (negsuc b) h = ap negsuc (eqb→eq a b h)
-
-eqZ-refl : (a : ℤ) → T (eqZ a a)
-eqZ-refl (pos a) = eqb-refl a
-eqZ-refl (negsuc a) = eqb-refl a
-
-pub →eqZ : (a b : ℤ) → a ≡ b → T (eqZ a b)
-→eqZ a b e = subst (λ (x : ℤ). T (eqZ a x)) e (eqZ-refl a)

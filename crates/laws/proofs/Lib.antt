@@ -28,5 +28,5 @@ pub mod Largest
 pub mod Laminar
 -- lists of clusters with the largest first
 pub mod Descends
--- lists one behind another, and a list backward
+-- lists of images, lists one behind another, and a list backward
 pub mod Appended

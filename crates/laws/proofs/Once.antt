@@ -1,7 +1,7 @@
 -- Lists in which no element stands twice.
 --     once-keep, once-append     what a filter leaves; two lists that share no element, one behind the other
 --     once-map, once-bind        the images by a function that tells elements apart; the lists of `bind`, if they share no element
---     once-map-keep, once-of-map the images of what a filter leaves; a list whose images don't repeat
+--     once-map-keep, once-of-map     the images of what a filter leaves; a list whose images don't repeat
 --     once-length-le     a list without repetition whose elements are in another is no longer than that
 --     once-length        two such lists with the same elements are of one length
 --     map-inj            where the images don't repeat, equal images have equal elements

@@ -7,6 +7,7 @@
 --     size c          the number of taxa
 --     single c        exactly one taxon
 --     taxa w          the one-taxon clusters of w taxa
+--     halvings n c    how often c is halved until its highest taxon is left, n times at most
 --     highest c       the largest taxon, 0 where there is none
 --     lowest w c      the smallest taxon of a cluster of w taxa, w where there is none
 --     unionOf cs      the taxa of all the clusters of a list

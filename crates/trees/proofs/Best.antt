@@ -211,7 +211,10 @@ module _ (w d : ℕ) (rs : List Row) (f : RowFacts w rs) where
   Answer C none = (xs : List ℕ) → Mem xs (treesOn w d (scoredIn rs) C) → ⊥
   Answer C (some x) =
       (x .0 ≡ length (treesOn w d (scoredIn rs) C))
-      × ((S : Fam) × Mem (keep S (scoredIn rs)) (treesOn w d (scoredIn rs) C) × ((c : ℕ) → T (S c) → Mem c (scoredIn rs)) × (x .1 ≡ keyIn rs S))
+      × ((S : Fam)
+      × Mem (keep S (scoredIn rs)) (treesOn w d (scoredIn rs) C)
+      × ((c : ℕ) → T (S c) → Mem c (scoredIn rs))
+      × (x .1 ≡ keyIn rs S))
       × ((xs : List ℕ) → Mem xs (treesOn w d (scoredIn rs) C) → AtLeast (x .1) (keyIn rs (famOf G xs)))
 
   answer : (C : ℕ) (v : Option Sol) (ts : List Fam) → Best rs v ts → Right G C ts → Answer C v

@@ -1,8 +1,9 @@
 -- THE TABLE IS THE TREES: each row worked out by the paper's formulas, from the rows beneath it, is the row defined by trees.
 --     workedTable W d rs      every row worked out from the rows beneath, from nothing
---     true-table              it is the table of true counts and keys, encoded
---     no-trees                an unscored cluster has no tree
---     fields-are-trees        count, mark, best and members are those of the trees of the definition
+--     trueTable d cs rs       the same in true counts and keys
+--     all-counted             its counts are one or more, where there is a tree
+--     true-table              the first is the fields of the second
+--     sets, nonzero           trees are sets of the rows' clusters, of which none is empty
 --     worked-is-built         the theorem, for all rows at once
 -- Assumes nothing.
 use mathlib.Core.Path.{_≡_, refl, sym, ap, ap₂, _∙_, subst}
@@ -19,10 +20,9 @@ use lib.ListN.{length}
 use Rattle.laws.specs.Cluster.{single}
 use Rattle.laws.specs.Limits.{Width}
 use Rattle.laws.specs.Lists.{keep, sublists}
-use Rattle.laws.proofs.Falling.{falling-once, sublist-trans}
+use Rattle.laws.proofs.Falling.{falling-once}
 use Rattle.laws.proofs.Tests.{true-T}
 use Rattle.laws.proofs.Once.{map-inj}
-use Rattle.laws.proofs.Sublists.{sublists-map-keep}
 use Rattle.trees.specs.Rows.{Row, isScored, clustersOf, scoredIn, Entry, cl, sc}
 use Rattle.trees.specs.Tree.{treesOn}
 use Rattle.trees.specs.Tuple.{isTuple}
@@ -30,15 +30,14 @@ use Rattle.trees.specs.Heaviest.{firstHeaviest}
 use Rattle.trees.specs.Result.{Result, countField, markField}
 use Rattle.trees.specs.Built.{rowLength, withBest, builtResult, builtTable}
 use Rattle.trees.specs.Rescored.{Key, keyFirst, workedOut}
-use Rattle.trees.proofs.Families.{Fam}
 use Rattle.trees.proofs.Kind.{tableOf, value, valueIf, build, mapE}
 use Rattle.trees.proofs.Rows.{RowFacts, table-row, table-rows, mem-scored, givenOf}
 use Rattle.trees.proofs.TreeFacts.{Given}
 use Rattle.trees.proofs.TreeTest.{tree-of}
 use Rattle.trees.proofs.Marks.{marks-keep, weight-keep}
 use Rattle.trees.proofs.KeyOrder.{key-irrefl}
-use Rattle.trees.proofs.FirstHeaviest.{setKey, AllSets, first-key}
-use Rattle.trees.proofs.Keys.{top, AtLeast, top-comm, least-of-first, Sol, solKind}
+use Rattle.trees.proofs.FirstHeaviest.{setKey, AllSets, set-of-scored, first-key}
+use Rattle.trees.proofs.Keys.{AtLeast, least-antisym, least-of-first, Sol, solKind}
 use Rattle.trees.proofs.Best.{Answer, row-answer}
 use Rattle.trees.proofs.Capped.{Res, encodeSol, encode, Counted, second, count-small}
 use Rattle.trees.proofs.Worked.{markIn, lengthIf, trueResult, AllCounted, worked-encode, counted-value}
@@ -56,7 +55,8 @@ module _ (d : ℕ) (cs : List ℕ) where
   -- its second half is the table of counts with keys
   second-table : (rs : List Row) → map second (trueTable rs) ≡ build (solKind (markIn cs)) d rs
   second-table [] = refl
-  second-table (r ∷ rs) = ap (λ (t : List (Entry (Option Sol))). record { row = r; val = value (solKind (markIn cs)) d r t } ∷ t) (second-table rs)
+  second-table (r ∷ rs) =
+      ap (λ (t : List (Entry (Option Sol))). record { row = r; val = value (solKind (markIn cs)) d r t } ∷ t) (second-table rs)
 
   second-counted : (t : List (Entry Res)) → AllCounted t → (e : Entry (Option Sol)) → Mem e (map second t) → Counted (e .val)
   second-counted (x ∷ t) c e (here q) = subst (λ (z : Entry (Option Sol)). Counted (z .val)) (sym q) (c x (here refl))
@@ -69,7 +69,8 @@ module _ (d : ℕ) (cs : List ℕ) where
       subst (λ (z : Entry Res). Counted (z .val .1)) (sym q)
       (counted-value (markIn cs) d r (map second (trueTable rs)) (second-counted (trueTable rs) (all-counted rs)))
 
-  pub true-table : (W : Width) → 1 ≤ W .countMax → (rs : List Row) → tableOf (workedOut W d cs) rs ≡ map (mapE (encode (W .countMax))) (trueTable rs)
+  pub true-table : (W : Width) → 1 ≤ W .countMax → (rs : List Row)
+      → tableOf (workedOut W d cs) rs ≡ map (mapE (encode (W .countMax))) (trueTable rs)
   true-table W p [] = refl
   true-table W p (r ∷ rs) =
       ap (λ (t : List (Entry Result)). record { row = r; val = workedOut W d cs r t } ∷ t) (true-table W p rs)
@@ -86,10 +87,7 @@ module _ (w d : ℕ) (rs : List Row) (f : RowFacts w rs) where
   trees C = treesOn w d (scoredIn rs) C
 
   pub sets : (C : ℕ) → AllSets rs (trees C)
-  sets C xs m = sublist-trans (clustersOf rs) (scoredIn rs) xs (falling-once (clustersOf rs) (f .falls)) scored-set (tree-of G C xs m .0)
-    where
-      scored-set : Mem (scoredIn rs) (sublists (clustersOf rs))
-      scored-set = sublists-map-keep (λ (r : Row). r .cluster) isScored rs
+  sets C xs m = set-of-scored rs (f .falls) xs (tree-of G C xs m .0)
 
   pub nonzero : (c : ℕ) → Mem c (clustersOf rs) → c ≢ 0
   nonzero c m e = let q = Memᴰ·of-map (λ (r : Row). r .cluster) rs m in f .fits (q .0) (q .1) .0 (q .2 ∙ e)
@@ -111,8 +109,7 @@ module _ (w d : ℕ) (rs : List Row) (f : RowFacts w rs) where
 
   not-before : (x y : Key) → AtLeast x y → T (keyFirst y x) → ⊥
   not-before x y h t =
-      let e : x ≡ y = sym h ∙ top-comm x y ∙ least-of-first y x t in
-      key-irrefl x (subst (λ (z : Key). T (keyFirst z x)) (sym e) t)
+      key-irrefl x (subst (λ (z : Key). T (keyFirst z x)) (sym (least-antisym x y h (least-of-first y x t))) t)
 
   module _ (limit n : ℕ) (C : ℕ) where
     abbrev fieldsOf : List (List ℕ) → Result
@@ -128,33 +125,37 @@ module _ (w d : ℕ) (rs : List Row) (f : RowFacts w rs) where
     }
     fields-none g (xs ∷ ts) e = absurd (g xs (subst (Mem xs) e (here refl)))
 
+    module _ (x : Sol) (a : Answer w d rs f C (some x)) where
+      -- the tree that the answer has the key of
+      abbrev bestTree : List ℕ
+      bestTree = keep (a .1 .0) (scoredIn rs)
+
+      best-key : x .1 ≡ setKey rs bestTree
+      best-key =
+          a .1 .3
+          ∙ (λ i. (
+            sym (weight-keep rs (scoredIn rs) (a .1 .0) (a .1 .2)) i,
+            sym (marks-keep (clustersOf rs) (scoredIn rs) (a .1 .0) (a .1 .2)) i,
+          ))
+
+      best-found : firstHeaviest rs (trees C) ≡ some bestTree
+      best-found = first-key rs (f .falls) nonzero (trees C) (sets C) bestTree (a .1 .1) (λ ys m t.
+          not-before (x .1) (setKey rs ys) (a .2 ys m) (subst (λ (k : Key). T (keyFirst (setKey rs ys) k)) (sym best-key) t))
+
+      fields-some : encodeSol limit n (some x) ≡ fieldsOf (trees C)
+      fields-some =
+          (λ i. record {
+            length = n;
+            count = countField limit (a .0 i);
+            mark = markField limit (a .0 i);
+            best = best-key i .0;
+            members = best-key i .1;
+          })
+          ∙ ap (withBest rs n (countField limit (length (trees C))) (markField limit (length (trees C)))) (sym best-found)
+
     fields-are-trees : (v : Option Sol) → Answer w d rs f C v → encodeSol limit n v ≡ fieldsOf (trees C)
     fields-are-trees none a = fields-none a (trees C) refl
-    fields-are-trees (some x) a = withBest-of
-      where
-        S : Fam
-        S = a .1 .0
-
-        xs : List ℕ
-        xs = keep S (scoredIn rs)
-
-        key : x .1 ≡ setKey rs xs
-        key = a .1 .3 ∙ (λ i. (sym (weight-keep rs (scoredIn rs) S (a .1 .2)) i, sym (marks-keep (clustersOf rs) (scoredIn rs) S (a .1 .2)) i))
-
-        first : firstHeaviest rs (trees C) ≡ some xs
-        first = first-key rs (f .falls) nonzero (trees C) (sets C) xs (a .1 .1) (λ ys m t.
-            not-before (x .1) (setKey rs ys) (a .2 ys m) (subst (λ (k : Key). T (keyFirst (setKey rs ys) k)) (sym key) t))
-
-        withBest-of : encodeSol limit n (some x) ≡ fieldsOf (trees C)
-        withBest-of =
-            (λ i. record {
-              length = n;
-              count = countField limit (a .0 i);
-              mark = markField limit (a .0 i);
-              best = key i .0;
-              members = key i .1;
-            })
-            ∙ ap (withBest rs n (countField limit (length (trees C))) (markField limit (length (trees C)))) (sym first)
+    fields-are-trees (some x) a = fields-some x a
 
 -- ---- all rows
 
@@ -193,8 +194,11 @@ module _ (W : Width) (pos-limit : 1 ≤ W .countMax) (d : ℕ) (rs : List Row) (
       ap (λ (n : ℕ). encodeSol (W .countMax) n (e .val .1)) (length-right [] rs refl e m)
       ∙ fields-are-trees (W .taxa) d rs f (W .countMax) (rowLength d rs (e .row)) (cl e) (e .val .1) (answer-of e m)
 
+  abbrev builtEntry : Row → Entry Result
+  builtEntry r = record { row = r; val = builtResult W d rs r }
+
   each : (t : List (Entry Res)) → ((e : Entry Res) → Mem e t → encode (W .countMax) (e .val) ≡ builtResult W d rs (e .row))
-      → map (mapE (encode (W .countMax))) t ≡ map (λ (r : Row). record { row = r; val = builtResult W d rs r }) (map (λ (e : Entry Res). e .row) t)
+      → map (mapE (encode (W .countMax))) t ≡ map builtEntry (map (λ (e : Entry Res). e .row) t)
   each [] h = refl
   each (e ∷ t) h =
       ap₂ (λ (v : Result) (l : List (Entry Result)). record { row = e .row; val = v } ∷ l) (h e (here refl)) (each t (λ x m. h x (there m)))
@@ -203,4 +207,4 @@ module _ (W : Width) (pos-limit : 1 ≤ W .countMax) (d : ℕ) (rs : List Row) (
   worked-is-built =
       true-table d cs W pos-limit rs
       ∙ each (trueTable d cs rs) entry-right
-      ∙ ap (map (λ (r : Row). record { row = r; val = builtResult W d rs r })) (table-rows (trueResult d cs) rs)
+      ∙ ap (map builtEntry) (table-rows (trueResult d cs) rs)

@@ -1,10 +1,14 @@
 -- Counts stopped at a limit: the paper's formulas, on rows whose count fields are stopped, give the fields of the true counts.
---     Res, encode limit       a row length with a true count and key, and the fields that hold it
---     trueCount, Counted      the true count, and that it is one or more where there is a tree
---     count-case              a tuple is dead, or plain, or its product is past the limit
---     many-is                 the paper's test of "many" is that the true count is past the limit
---     key-is                  the paper's choice among tuples is the first key
---     worked-encode           so the row worked out from the fields is the fields of the row worked out in true counts
+--     Res                      a row length with a true count and key
+--     encodeSol, encode        the fields that hold them
+--     trueCount, Counted       the true count, and that it is one or more where there is a tree
+--     second                   an entry without its row length
+--     past                     a number is up to the limit or past it
+--     count-small, count-large     its two fields, by that
+--     count-hom                counting respects sums and products
+--     fieldsE, fieldsT         an entry and several, with their fields
+--     trueTimes, trueSum       the product of a tuple's true counts, and the sum over tuples
+--     many-is                  the paper's test of "many" is that the true count is past the limit
 -- Assumes nothing.
 use mathlib.Core.Path.{_≡_, refl, sym, ap, ap₂, _∙_, subst}
 use mathlib.Core.Logic.{_⊎_, inl, inr}
@@ -68,22 +72,23 @@ past limit n = go (decLe n limit)
     go (yes h) = inl h
     go (no h) = inr (omega arith)
 
-fields-of : (limit n : ℕ) (v : Option Sol) → (encodeSol limit n v .count ≡ countField limit (trueCount v)) × (encodeSol limit n v .mark ≡ markField limit (trueCount v))
+fields-of : (limit n : ℕ) (v : Option Sol)
+    → (encodeSol limit n v .count ≡ countField limit (trueCount v)) × (encodeSol limit n v .mark ≡ markField limit (trueCount v))
 fields-of limit n none = let q = count-small limit 0 (omega arith) in (sym (q .0), sym (q .1))
 fields-of limit n (some x) = (refl, refl)
 
 pub count-hom : (bit : ℕ → ℕ) → Hom (solKind bit) countKind trueCount
-count-hom bit = record { none = refl; unit = refl; plus = p; times = t; own = λ r. refl }
+count-hom bit = record { none = refl; unit = refl; plus = plus; times = times; own = λ r. refl }
   where
-    p : (x y : Option Sol) → trueCount (plusSol x y) ≡ trueCount x + trueCount y
-    p none y = omega arith
-    p (some x) none = omega arith
-    p (some x) (some y) = refl
+    plus : (x y : Option Sol) → trueCount (plusSol x y) ≡ trueCount x + trueCount y
+    plus none y = omega arith
+    plus (some x) none = omega arith
+    plus (some x) (some y) = refl
 
-    t : (x y : Option Sol) → trueCount (timesSol x y) ≡ trueCount x * trueCount y
-    t none y = sym (zero-mul (trueCount y))
-    t (some x) none = sym (mul-zero (x .0))
-    t (some x) (some y) = refl
+    times : (x y : Option Sol) → trueCount (timesSol x y) ≡ trueCount x * trueCount y
+    times none y = sym (zero-mul (trueCount y))
+    times (some x) none = sym (mul-zero (x .0))
+    times (some x) (some y) = refl
 
 module _ (limit : ℕ) (pos-limit : 1 ≤ limit) where
   abbrev pub fieldsE : Entry Res → Entry Result
@@ -123,7 +128,7 @@ module _ (limit : ℕ) (pos-limit : 1 ≤ limit) where
 
     case-none : n ≡ 0 → Case (e ∷ τ)
     case-none z =
-        let c : fieldsE e .val .count ≡ 0 = fields-of limit (e .val .0) (e .val .1) .0 ∙ ap (countField limit) z ∙ count-small limit 0 (omega arith) .0 in
+        let c = fields-of limit (e .val .0) (e .val .1) .0 ∙ ap (countField limit) z ∙ count-small limit 0 (omega arith) .0 in
         dead (ap (λ (x : ℕ). not (eqb x 0) && isLive (fieldsT τ)) c)
         (ap (λ (x : ℕ). x * timesCounts (fieldsT τ)) c ∙ zero-mul (timesCounts (fieldsT τ)))
         (ap (λ (x : ℕ). x * trueTimes τ) z ∙ zero-mul (trueTimes τ))
@@ -131,16 +136,18 @@ module _ (limit : ℕ) (pos-limit : 1 ≤ limit) where
     live-of : (x : ℕ) → fieldsE e .val .count ≡ x → 1 ≤ x → live ≡ true
     live-of x c h = ap (λ (y : ℕ). not (eqb y 0)) c ∙ ap not (T-false (eqb x 0) (λ t. omega (arith, eqb→eq x 0 t)))
 
-    dead-rest : Case τ → isLive (fieldsT τ) ≡ false → timesCounts (fieldsT τ) ≡ 0 → trueTimes τ ≡ 0 → Case (e ∷ τ)
-    dead-rest k a b c =
-        dead (ap (λ (x : Bool). live && x) a ∙ and-false live) (ap (λ (x : ℕ). fieldsE e .val .count * x) b ∙ mul-zero (fieldsE e .val .count)) (ap (λ (x : ℕ). n * x) c ∙ mul-zero n)
+    dead-rest : isLive (fieldsT τ) ≡ false → timesCounts (fieldsT τ) ≡ 0 → trueTimes τ ≡ 0 → Case (e ∷ τ)
+    dead-rest a b c =
+        dead (ap (λ (x : Bool). live && x) a ∙ and-false live)
+        (ap (λ (x : ℕ). fieldsE e .val .count * x) b ∙ mul-zero (fieldsE e .val .count))
+        (ap (λ (x : ℕ). n * x) c ∙ mul-zero n)
       where
         and-false : (b : Bool) → (b && false) ≡ false
         and-false true = refl
         and-false false = refl
 
     case-small : 1 ≤ n → n ≤ limit → Case τ → Case (e ∷ τ)
-    case-small h l k = go k
+    case-small h l = go
       where
         c : fieldsE e .val .count ≡ n
         c = fields-of limit (e .val .0) (e .val .1) .0 ∙ count-small limit n l .0
@@ -149,15 +156,16 @@ module _ (limit : ℕ) (pos-limit : 1 ≤ limit) where
         m = ap (λ (x : ℕ). eqb x 1) (fields-of limit (e .val .0) (e .val .1) .1 ∙ count-small limit n l .1)
 
         go : Case τ → Case (e ∷ τ)
-        go (dead a b z) = dead-rest k a b z
+        go (dead a b z) = dead-rest a b z
         go (plain a b t p) =
-            plain (ap₂ (λ (x y : Bool). x && y) (live-of n c h) a) (ap₂ (λ (x y : Bool). x || y) m b) (ap₂ (λ (x y : ℕ). x * y) c t) (one-le-mul h p)
+            plain (ap₂ (λ (x y : Bool). x && y) (live-of n c h) a) (ap₂ (λ (x y : Bool). x || y) m b)
+            (ap₂ (λ (x y : ℕ). x * y) c t) (one-le-mul h p)
         go (large a b p) =
             large (ap₂ (λ (x y : Bool). x && y) (live-of n c h) a) (ap₂ (λ (x y : Bool). x || y) m b)
             (omega (arith, mul-le-mul-right (trueTimes τ) h, one-mul (trueTimes τ), p))
 
     case-large : limit < n → Case τ → Case (e ∷ τ)
-    case-large l k = go k
+    case-large l = go
       where
         c : fieldsE e .val .count ≡ limit
         c = fields-of limit (e .val .0) (e .val .1) .0 ∙ count-large limit n l .0
@@ -165,15 +173,15 @@ module _ (limit : ℕ) (pos-limit : 1 ≤ limit) where
         m : marked ≡ true
         m = ap (λ (x : ℕ). eqb x 1) (fields-of limit (e .val .0) (e .val .1) .1 ∙ count-large limit n l .1)
 
-        past-limit : 1 ≤ trueTimes τ → limit < n * trueTimes τ
-        past-limit p = omega (arith, mul-le-mul-left n p, mul-one n, l)
+        more : isLive (fieldsT τ) ≡ true → 1 ≤ trueTimes τ → Case (e ∷ τ)
+        more a p =
+            large (ap₂ (λ (x y : Bool). x && y) (live-of limit c pos-limit) a) (ap (λ (x : Bool). x || hasMark (fieldsT τ)) m)
+            (omega (arith, mul-le-mul-left n p, mul-one n, l))
 
         go : Case τ → Case (e ∷ τ)
-        go (dead a b z) = dead-rest k a b z
-        go (plain a b t p) =
-            large (ap₂ (λ (x y : Bool). x && y) (live-of limit c pos-limit) a) (ap (λ (x : Bool). x || hasMark (fieldsT τ)) m) (past-limit p)
-        go (large a b p) =
-            large (ap₂ (λ (x y : Bool). x && y) (live-of limit c pos-limit) a) (ap (λ (x : Bool). x || hasMark (fieldsT τ)) m) (past-limit (omega (arith, p)))
+        go (dead a b z) = dead-rest a b z
+        go (plain a b t p) = more a p
+        go (large a b p) = more a (omega (arith, p))
 
   count-case : (τ : List (Entry Res)) → Case τ
   count-case [] = plain refl refl refl (le-refl 1)
@@ -196,15 +204,16 @@ module _ (limit : ℕ) (pos-limit : 1 ≤ limit) where
   sums [] = exact refl refl
   sums (τ ∷ τs) = go (count-case τ) (sums τs)
     where
-      here-marked : Bool → Bool → Bool
-      here-marked a b = a && b || isMarked (map fieldsT τs)
+      -- whether τ is live and has a mark, or one of the others
+      marked : Bool → Bool → Bool
+      marked a b = a && b || isMarked (map fieldsT τs)
 
       go : Case τ → Sums τs → Sums (τ ∷ τs)
-      go (dead a t z) (exact b s) = exact (ap₂ (λ (x y : Bool). x && hasMark (fieldsT τ) || y) a b) (ap₂ (λ (x y : ℕ). x + y) (t ∙ sym z) s)
-      go (dead a t z) (many b s) = many (ap₂ (λ (x y : Bool). x && hasMark (fieldsT τ) || y) a b) (omega (arith, s))
-      go (plain a b t p) (exact c s) = exact (ap₂ (λ (x y : Bool). x && y || isMarked (map fieldsT τs)) a b ∙ c) (ap₂ (λ (x y : ℕ). x + y) t s)
-      go (plain a b t p) (many c s) = many (ap₂ (λ (x y : Bool). x && y || isMarked (map fieldsT τs)) a b ∙ c) (omega (arith, s))
-      go (large a b p) k = many (ap₂ (λ (x y : Bool). x && y || isMarked (map fieldsT τs)) a b) (omega (arith, p))
+      go (dead a t z) (exact b s) = exact (ap (λ (x : Bool). marked x (hasMark (fieldsT τ))) a ∙ b) (ap₂ _+_ (t ∙ sym z) s)
+      go (dead a t z) (many b s) = many (ap (λ (x : Bool). marked x (hasMark (fieldsT τ))) a ∙ b) (omega (arith, s))
+      go (plain a b t p) (exact c s) = exact (ap₂ marked a b ∙ c) (ap₂ _+_ t s)
+      go (plain a b t p) (many c s) = many (ap₂ marked a b ∙ c) (omega (arith, s))
+      go (large a b p) k = many (ap₂ marked a b) (omega (arith, p))
 
   module _ (τs : List (List (Entry Res))) where
     -- what the paper's two fields say of the true count
@@ -230,4 +239,5 @@ module _ (limit : ℕ) (pos-limit : 1 ≤ limit) where
             (subst (λ (x : ℕ). Fields (ltb limit x) x) (sym s) (by-limit (past limit (trueSum τs))))
         go (many b h) =
             let q = count-large limit (trueSum τs) h in
-            subst (λ (x : Bool). Fields (x || ltb limit (sumCounts (map fieldsT τs))) (sumCounts (map fieldsT τs))) (sym b) (sym (q .0), sym (q .1))
+            subst (λ (x : Bool). Fields (x || ltb limit (sumCounts (map fieldsT τs))) (sumCounts (map fieldsT τs))) (sym b)
+            (sym (q .0), sym (q .1))

@@ -1,6 +1,6 @@
 -- Covers: tuples without the lower bound on the number of children. A search for tuples looks for covers of what is left.
 --     covers n R cs              at most n clusters, pairwise apart, whose union is R
---     CoverFacts, cover→, →cover the test as a record, out of it and into it
+--     CoverFacts, cover→, →cover     the test as a record, out of it and into it
 --     covers-cons                one child more: it lies inside R, and the others cover what is left
 --     isCover, coversOf n R es   the covers of R among the sublists of entries
 --     inFront                    an entry in front of each of some lists (passed on from laws)
@@ -8,7 +8,7 @@
 --     chosen n R es              the same by recursion: each entry is taken or passed over
 --     chosen-is, coversOf-cons   it gives the covers in the same order
 --     tuples-are-covers          among rows below C the tuples of C are its covers
---     clusters-map, coversOf-map the covers of the same rows with other results
+--     clusters-map, coversOf-map     the covers of the same rows with other results
 -- Assumes nothing.
 use mathlib.Core.Path.{_≡_, refl, sym, ap, ap₂, _∙_, subst}
 use mathlib.Core.Logic.{_≢_}
@@ -23,6 +23,7 @@ use lib.ListN.{length}
 use Rattle.laws.specs.Cluster.{inside, apart, unionOf}
 use Rattle.laws.specs.Lists.{keepIf, keep, every, sublists}
 use Rattle.laws.proofs.Tests.{T-and, and-T, bool-ext, eq→eqb}
+use Rattle.laws.proofs.Appended.{map-through}
 use Rattle.laws.proofs.Keep.{→every, keep-ext, keep-map, keep-none}
 use Rattle.laws.proofs.Sublists.{keep-sublists-cons, mem-of-sublist, sublists-map}
 pub use Rattle.laws.proofs.Sublists.{inFront}
@@ -170,8 +171,7 @@ module _ {A : Type 0} where
 
 module _ {A B : Type 0} (g : Entry A → Entry B) (same : (e : Entry A) → cl (g e) ≡ cl e) where
   pub clusters-map : (τ : List (Entry A)) → map cl (map g τ) ≡ map cl τ
-  clusters-map [] = refl
-  clusters-map (e ∷ τ) = ap₂ (λ (c : ℕ) (cs : List ℕ). c ∷ cs) (same e) (clusters-map τ)
+  clusters-map = map-through g cl cl same
 
   pub coversOf-map : (n R : ℕ) (es : List (Entry A)) → coversOf n R (map g es) ≡ map (map g) (coversOf n R es)
   coversOf-map n R es =

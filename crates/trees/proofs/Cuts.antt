@@ -85,6 +85,13 @@ module _ (G : Given) where
           held c (inl s) = (e, here refl, tree .within c s)
           held c (inr u) = let q = cut .held c u in (q .0, there (q .1), q .2)
 
+    -- the two can be read off the join
+    rest-inj : (S U W : Fam) → Tree G (cl e) S → Cut τ U → Cut τ W → join S U ≡ join S W → U ≡ W
+    rest-inj S U W h j k q = sym (rest-part S U h j) ∙ ap (λ (X : Fam). outside X (cl e)) q ∙ rest-part S W h k
+
+    child-inj : (S S′ U W : Fam) → Tree G (cl e) S → Tree G (cl e) S′ → Cut τ U → Cut τ W → join S U ≡ join S′ W → S ≡ S′
+    child-inj S S′ U W h h′ j k q = sym (child-part S U h j) ∙ ap (λ (X : Fam). restrict X (cl e)) q ∙ child-part S′ W h′ k
+
     split-cut : (U : Fam) → Cut (e ∷ τ) U → Cut τ (outside U (cl e))
     split-cut U cut = record { parts = parts; held = held }
       where
@@ -127,7 +134,8 @@ module _ (G : Given) where
   combos-once [] a r = (mem-nil, tt)
   combos-once (e ∷ τ) a r =
       once-bind (λ (S : Fam). map (join S) (combos τ)) (e .val) (r e (here refl) .once)
-      (λ S m. once-map (join S) (combos τ) (combos-once τ (apart-rest (cl e) (map cl τ) a) (λ x k. r x (there k))) (same-rest S m))
+      (λ S m. once-map (join S) (combos τ) (combos-once τ (apart-rest (cl e) (map cl τ) a) (λ x k. r x (there k)))
+      (λ U W j k q. rest-inj e τ (first-away e τ a) S U W (sound S m) (cut U j) (cut W k) q))
       same-child
     where
       sound : (S : Fam) → Mem S (e .val) → Tree G (cl e) S
@@ -136,17 +144,10 @@ module _ (G : Given) where
       cut : (U : Fam) → Mem U (combos τ) → Cut τ U
       cut = combos→ τ (apart-rest (cl e) (map cl τ) a) (λ x k. r x (there k))
 
-      same-rest : (S : Fam) → Mem S (e .val) → (U W : Fam) → Mem U (combos τ) → Mem W (combos τ) → join S U ≡ join S W → U ≡ W
-      same-rest S m U W j k q =
-          sym (rest-part e τ (first-away e τ a) S U (sound S m) (cut U j))
-          ∙ ap (λ (X : Fam). outside X (cl e)) q
-          ∙ rest-part e τ (first-away e τ a) S W (sound S m) (cut W k)
-
       same-child : (S S′ X : Fam) → Mem S (e .val) → Mem S′ (e .val) → Mem X (map (join S) (combos τ)) → Mem X (map (join S′) (combos τ))
           → S ≡ S′
       same-child S S′ X m m′ j k =
           let p = Memᴰ·of-map (join S) (combos τ) j in
           let q = Memᴰ·of-map (join S′) (combos τ) k in
-          sym (child-part e τ (first-away e τ a) S (p .0) (sound S m) (cut (p .0) (p .1)))
-          ∙ ap (λ (Y : Fam). restrict Y (cl e)) (p .2 ∙ sym (q .2))
-          ∙ child-part e τ (first-away e τ a) S′ (q .0) (sound S′ m′) (cut (q .0) (q .1))
+          child-inj e τ (first-away e τ a) S S′ (p .0) (q .0) (sound S m) (sound S′ m′) (cut (p .0) (p .1)) (cut (q .0) (q .1))
+          (p .2 ∙ sym (q .2))

@@ -100,7 +100,8 @@ drop-not true true false n = refl
 drop-not true false q n = refl
 drop-not false p q n = refl
 
-pub restrict-outside : (U : Fam) (X Y : ℕ) → ((c : ℕ) → T (U c) → T (inside c X) → T (inside c Y) → ⊥) → restrict U Y ≡ restrict (outside U X) Y
+pub restrict-outside : (U : Fam) (X Y : ℕ) → ((c : ℕ) → T (U c) → T (inside c X) → T (inside c Y) → ⊥)
+    → restrict U Y ≡ restrict (outside U X) Y
 restrict-outside U X Y n = fun-ext (λ c. drop-not (U c) (inside c X) (inside c Y) (n c))
 
 pub join-parts : (U : Fam) (X : ℕ) → join (restrict U X) (outside U X) ≡ U

@@ -5,7 +5,7 @@
 --     SetOf, AllSets      a list is one of the sublists of the rows' clusters, and so is each of several
 --     set-of-scored       so is every sublist of the scored clusters
 --     Leads rs xs ys      xs is ys, or comes before it
---     first-none, first-some     nothing is found among no sets; among others one is
+--     first-some          among one or more sets one is found
 --     first-mem           what is found is one of the sets
 --     first-before        and leads each of them
 --     first-only          a set that leads each of them is what is found
@@ -14,15 +14,15 @@
 use mathlib.Core.Path.{_≡_, refl, sym, ap, _∙_, subst}
 use mathlib.Core.Logic.{_⊎_, inl, inr, _≢_}
 use mathlib.Core.Bool.{Bool, not, cond, _&&_, _||_}
-use mathlib.Core.Option.{none, some, Option·none-ne-some, Option·some-injective}
-use mathlib.Core.List.{List, [], _∷_, map, Memᴰ·map}
+use mathlib.Core.Option.{some, Option·none-ne-some, Option·some-injective}
+use mathlib.Core.List.{List, [], _∷_}
 use mathlib.Core.List.{List·Memᴰ as Mem, List·Memᴰ·head as here, List·Memᴰ·tail as there, List·Memᴰ·not-nil as mem-nil}
 use Prim.Native.Nat.{ℕ}
 use lib.Dec.{T}
 use lib.Signed.{ltZ}
 use Rattle.laws.specs.Lists.{sublists}
 use Rattle.laws.proofs.Falling.{Falling, falling-once, sublist-trans}
-use Rattle.laws.proofs.Sublists.{sublists-keep, sublists-map}
+use Rattle.laws.proofs.Sublists.{sublists-map-keep}
 use Rattle.laws.proofs.Tests.{T-dec, T-true, T-false}
 use Rattle.trees.specs.Rows.{Row, isScored, clustersOf, scoredIn}
 use Rattle.trees.specs.Heaviest.{weightOf, comesFirst, firstOf, firstHeaviest}
@@ -49,12 +49,7 @@ module _ (rs : List Row) where
   set-of-scored f xs m = sublist-trans (clustersOf rs) (scoredIn rs) xs (falling-once (clustersOf rs) f) scored m
     where
       scored : Mem (scoredIn rs) (sublists (clustersOf rs))
-      scored =
-          rw (sublists-map (λ (r : Row). r .cluster) rs)
-          (Memᴰ·map (map (λ (r : Row). r .cluster)) (sublists-keep isScored rs))
-
-  pub first-none : firstHeaviest rs [] ≡ none
-  first-none = refl
+      scored = sublists-map-keep (λ (r : Row). r .cluster) isScored rs
 
 module _ (rs : List Row) (falling : Falling (clustersOf rs)) (nonzero : (c : ℕ) → Mem c (clustersOf rs) → c ≢ 0) where
   pub setKey-inj : (xs ys : List ℕ) → SetOf rs xs → SetOf rs ys → setKey rs xs ≡ setKey rs ys → xs ≡ ys

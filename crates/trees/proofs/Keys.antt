@@ -1,7 +1,8 @@
 -- The first heaviest has the first key, and adding the same key on both sides keeps the order: so counts with keys are a semiring with no
 -- side conditions.
---     top, top-self, top-comm, top-assoc     the first of two
---     AtLeast, least-…             no key is before x
+--     top, top-cases, top-self, top-comm, top-assoc     the first of two
+--     AtLeast x y                  y is not before x
+--     least-trans, least-antisym, least-top-l, least-top-r, least-of-first     an order, in which the first of two is at least both
 --     joinK, join-top, join-least  keys added, and that this keeps the order
 --     Sol, plusSol, timesSol       no tree; or a count and the key of the first heaviest
 --     countKind, solKind           the kinds of counts, and of counts with keys
@@ -56,29 +57,34 @@ top-comm x y = go (which x y)
     go (same e) = ap₂ top e (sym e)
     go (behind h) = top-r x y h ∙ sym (top-l y x h)
 
+top-again : (x z : Key) → top x z ≡ top x (top x z)
+top-again x z = go (which x z)
+  where
+    go : Which x z → top x z ≡ top x (top x z)
+    go (ahead h) = top-l x z h ∙ sym (ap (top x) (top-l x z h) ∙ top-self x)
+    go (same e) = subst (λ (w : Key). top x w ≡ top x (top x w)) e (sym (ap (top x) (top-self x)))
+    go (behind h) = top-r x z h ∙ sym (ap (top x) (top-r x z h) ∙ top-r x z h)
+
+top-last : (x y : Key) → top (top x y) y ≡ top x y
+top-last x y = go (which x y)
+  where
+    go : Which x y → top (top x y) y ≡ top x y
+    go (ahead h) = ap (λ (w : Key). top w y) (top-l x y h)
+    go (same e) = subst (λ (w : Key). top (top x w) w ≡ top x w) e (ap (λ (w : Key). top w x) (top-self x))
+    go (behind h) = ap (λ (w : Key). top w y) (top-r x y h) ∙ top-self y ∙ sym (top-r x y h)
+
 pub top-assoc : (x y z : Key) → top (top x y) z ≡ top x (top y z)
 top-assoc x y z = go (which x y) (which y z)
   where
-    again : Which x z → top x z ≡ top x (top x z)
-    again (ahead h) = top-l x z h ∙ sym (ap (top x) (top-l x z h) ∙ top-self x)
-    again (same e) = subst (λ (w : Key). top x w ≡ top x (top x w)) e (sym (ap (top x) (top-self x)))
-    again (behind h) = top-r x z h ∙ sym (ap (top x) (top-r x z h) ∙ top-r x z h)
-
-    last : Which x y → top (top x y) y ≡ top x y
-    last (ahead h) = ap (λ (w : Key). top w y) (top-l x y h)
-    last (same e) = subst (λ (w : Key). top (top x w) w ≡ top x w) e (ap (λ (w : Key). top w x) (top-self x))
-    last (behind h) = ap (λ (w : Key). top w y) (top-r x y h) ∙ top-self y ∙ sym (top-r x y h)
-
-    tied : Which x y → y ≡ z → top (top x y) z ≡ top x (top y z)
-    tied h e = subst (λ (w : Key). top (top x y) w ≡ top x (top y w)) e (last h ∙ sym (ap (top x) (top-self y)))
+    tied : y ≡ z → top (top x y) z ≡ top x (top y z)
+    tied e = subst (λ (w : Key). top (top x y) w ≡ top x (top y w)) e (top-last x y ∙ sym (ap (top x) (top-self y)))
 
     go : Which x y → Which y z → top (top x y) z ≡ top x (top y z)
-    go (same e) k =
-        subst (λ (w : Key). top (top x w) z ≡ top x (top w z)) e (ap (λ (w : Key). top w z) (top-self x) ∙ again (which x z))
+    go (same e) k = subst (λ (w : Key). top (top x w) z ≡ top x (top w z)) e (ap (λ (w : Key). top w z) (top-self x) ∙ top-again x z)
     go (ahead h) (ahead k) =
         ap (λ (w : Key). top w z) (top-l x y h) ∙ top-l x z (key-trans x y z h k) ∙ sym (ap (top x) (top-l y z k) ∙ top-l x y h)
-    go (ahead h) (same e) = tied (ahead h) e
-    go (behind h) (same e) = tied (behind h) e
+    go (ahead h) (same e) = tied e
+    go (behind h) (same e) = tied e
     go (ahead h) (behind k) = ap (λ (w : Key). top w z) (top-l x y h) ∙ sym (ap (top x) (top-r y z k))
     go (behind h) (ahead k) = ap (λ (w : Key). top w z) (top-r x y h) ∙ top-l y z k ∙ sym (ap (top x) (top-l y z k) ∙ top-r x y h)
     go (behind h) (behind k) =
@@ -162,6 +168,37 @@ timesSol none y = none
 timesSol (some x) none = none
 timesSol (some x) (some y) = some (x .0 * y .0, joinK (x .1) (y .1))
 
+plus-none : (x : Option Sol) → plusSol x none ≡ x
+plus-none none = refl
+plus-none (some x) = refl
+
+plus-assoc : (x y z : Option Sol) → plusSol (plusSol x y) z ≡ plusSol x (plusSol y z)
+plus-assoc none y z = refl
+plus-assoc (some x) none z = refl
+plus-assoc (some x) (some y) none = refl
+plus-assoc (some x) (some y) (some z) =
+    λ i. some ((let q : x .0 + y .0 + z .0 ≡ x .0 + (y .0 + z .0) = omega arith in q) i, top-assoc (x .1) (y .1) (z .1) i)
+
+plus-comm : (x y : Option Sol) → plusSol x y ≡ plusSol y x
+plus-comm none none = refl
+plus-comm none (some y) = refl
+plus-comm (some x) none = refl
+plus-comm (some x) (some y) = λ i. some ((let q : x .0 + y .0 ≡ y .0 + x .0 = omega arith in q) i, top-comm (x .1) (y .1) i)
+
+times-none : (x : Option Sol) → timesSol x none ≡ none
+times-none none = refl
+times-none (some x) = refl
+
+times-unit : (x : Option Sol) → timesSol x (some (1, (pos 0, 0))) ≡ x
+times-unit none = refl
+times-unit (some x) = λ i. some (mul-one (x .0) i, (+ℤ-idr (x .1 .0) i, (let q : x .1 .1 + 0 ≡ x .1 .1 = omega arith in q) i))
+
+times-plus : (x y z : Option Sol) → timesSol x (plusSol y z) ≡ plusSol (timesSol x y) (timesSol x z)
+times-plus none y z = refl
+times-plus (some x) none z = refl
+times-plus (some x) (some y) none = refl
+times-plus (some x) (some y) (some z) = λ i. some (mul-add (x .0) (y .0) (z .0) i, join-top (x .1) (y .1) (z .1) i)
+
 module _ (bit : ℕ → ℕ) where
   abbrev pub solKind : Kind (Option Sol)
   solKind = record {
@@ -173,36 +210,11 @@ module _ (bit : ℕ → ℕ) where
   }
 
   pub sol-lawful : Lawful solKind
-  sol-lawful = record { plus-none = pn; plus-assoc = pa; plus-comm = pc; times-none = tn; times-unit = tu; times-plus = tp }
-    where
-      pn : (x : Option Sol) → plusSol x none ≡ x
-      pn none = refl
-      pn (some x) = refl
-
-      pa : (x y z : Option Sol) → plusSol (plusSol x y) z ≡ plusSol x (plusSol y z)
-      pa none y z = refl
-      pa (some x) none z = refl
-      pa (some x) (some y) none = refl
-      pa (some x) (some y) (some z) =
-          λ i. some ((let q : x .0 + y .0 + z .0 ≡ x .0 + (y .0 + z .0) = omega arith in q) i, top-assoc (x .1) (y .1) (z .1) i)
-
-      pc : (x y : Option Sol) → plusSol x y ≡ plusSol y x
-      pc none none = refl
-      pc none (some y) = refl
-      pc (some x) none = refl
-      pc (some x) (some y) = λ i. some ((let q : x .0 + y .0 ≡ y .0 + x .0 = omega arith in q) i, top-comm (x .1) (y .1) i)
-
-      tn : (x : Option Sol) → timesSol x none ≡ none
-      tn none = refl
-      tn (some x) = refl
-
-      tu : (x : Option Sol) → timesSol x (some (1, (pos 0, 0))) ≡ x
-      tu none = refl
-      tu (some x) =
-          λ i. some (mul-one (x .0) i, (+ℤ-idr (x .1 .0) i, (let q : x .1 .1 + 0 ≡ x .1 .1 = omega arith in q) i))
-
-      tp : (x y z : Option Sol) → timesSol x (plusSol y z) ≡ plusSol (timesSol x y) (timesSol x z)
-      tp none y z = refl
-      tp (some x) none z = refl
-      tp (some x) (some y) none = refl
-      tp (some x) (some y) (some z) = λ i. some (mul-add (x .0) (y .0) (z .0) i, join-top (x .1) (y .1) (z .1) i)
+  sol-lawful = record {
+    plus-none = plus-none;
+    plus-assoc = plus-assoc;
+    plus-comm = plus-comm;
+    times-none = times-none;
+    times-unit = times-unit;
+    times-plus = times-plus;
+  }

@@ -1,12 +1,15 @@
 -- One row formula for any kind of result: a sum over the tuples of the products of the children's results. Counting, the key of the first
 -- heaviest tree and the list of the trees themselves are kinds of it.
 --     Kind                    what results of one kind need: none, unit, plus, times, and a row's own
---     sumK, prodK, overTuples sums and products of lists; the sum over tuples of the products
---     value, build            the row formula, and a table built by it
+--     sumK, prodK, overTuples     sums and products of lists; the sum over tuples of the products
+--     valueIf, value, build   the row formula by its cases, as a whole, and a table built by it
 --     tableOf F rs            a table by any row formula F: each row worked out from the rows beneath
 --     Lawful                  the laws of a semiring, as far as the search needs them
+--     mapE, cl-map, tuples-map     the same rows with other results: their clusters, and their tuples
+--     Hom                     a map that respects the operations
+--     hom-sum, hom-value, hom-build     carries sums over tuples, rows and tables
 --     pairKind                two kinds at once
---     mapE, Hom, hom-…        a map that respects the operations carries one table to another
+--     hom-first, hom-second, pair-lawful     each of the two is carried, and the pair is lawful where both are
 -- Assumes nothing.
 use mathlib.Core.Path.{_≡_, refl, sym, ap, ap₂, _∙_}
 use mathlib.Core.Bool.{Bool, true, false}
@@ -14,6 +17,7 @@ use mathlib.Core.List.{List, [], _∷_, map}
 use Prim.Native.Nat.{ℕ}
 use Rattle.laws.specs.Cluster.{single}
 use Rattle.laws.specs.Lists.{keep, sublists}
+use Rattle.laws.proofs.Appended.{map-through}
 use Rattle.laws.proofs.Keep.{keep-ext, keep-map}
 use Rattle.laws.proofs.Sublists.{sublists-map}
 use Rattle.trees.specs.Rows.{Row, isScored, Entry, cl, sc}
@@ -70,8 +74,7 @@ module _ {A B : Type 0} (h : A → B) where
   mapE e = record { row = e .row; val = h (e .val) }
 
   pub cl-map : (τ : List (Entry A)) → map cl (map mapE τ) ≡ map cl τ
-  cl-map [] = refl
-  cl-map (e ∷ τ) = ap (λ (cs : List ℕ). cl e ∷ cs) (cl-map τ)
+  cl-map = map-through mapE cl cl (λ e. refl)
 
   pub tuples-map : (d C : ℕ) (es : List (Entry A)) → tuples d C (map mapE es) ≡ map (map mapE) (tuples d C es)
   tuples-map d C es =

@@ -2,12 +2,13 @@
 -- looked for among all rows: a row too large takes no part.
 --     leads c R, leads→, →leads      c lies inside R and is more than half of it
 --     leads-reaches, leads-of-reach  which is to hold R's highest taxon
---     leads-iff-highest              or to have the same highest taxon; reach-iff-highest says so of any row up to R
+--     leads-iff-highest              or to have the same highest taxon
+--     reach-iff-highest              a row up to R reaches R's highest taxon where it has the same highest taxon
 --     coversOf-lead                  one entry more, among rows that fall: it leads, or plays no part
 --     coversOf-one                   the same with one child left: the entry is R itself
 --     coversOf-zero-is               with no child left: nothing is left to cover
 --     coversOf-stop                  nothing left to cover: the empty cover and no other
---     coversOf-first, coversOf-above rows above R in front play no part
+--     coversOf-first, coversOf-above     rows above R in front play no part
 --     within b, coversOf-within      nor do rows above any bound from R on
 --     coversOf-local                 lists that agree on the rows up to such a bound have the same covers of R
 --     coversOf-scored                and so have their scored rows

@@ -3,9 +3,10 @@
 --     under C e             the entry lies inside C
 --     Local F               the row formula F depends on the entries inside the row's cluster alone
 --     tuples-local, worked-local     the tuples, and the paper's formula, are local
---     rescore-is-build      the theorem
+--     put-cluster, put-clusters, put-other         what a new score leaves alone
+--     again-is-table, rescore-is-table     the theorem, for any local formula and for the paper's
+--     others F c t          the rows of t that don't contain c
 --     rescored-clusters, rescore-other     in any table clusters stay, and so does every row that doesn't contain the rescored cluster
---     put-cluster, put-other         what a new score leaves alone
 -- Assumes nothing.
 use mathlib.Core.Path.{_≡_, refl, sym, ap, ap₂, _∙_, subst}
 use mathlib.Core.Logic.{_⊎_, inl, inr}
@@ -19,6 +20,7 @@ use Rattle.laws.specs.Cluster.{inside, single}
 use Rattle.laws.specs.Limits.{Width}
 use Rattle.laws.specs.Lists.{keepIf, keep}
 use Rattle.laws.proofs.Tests.{T-dec, T-true, T-false}
+use Rattle.laws.proofs.Appended.{map-through}
 use Rattle.laws.proofs.Keep.{keep-swap}
 use Rattle.laws.proofs.Sublists.{sublists-drop}
 use Rattle.laws.proofs.Cluster.{inside-refl, inside-trans}
@@ -40,7 +42,8 @@ module _ {A : Type 0} where
 
   pub tuples-local : (d C : ℕ) (es : List (Entry A)) → tuples d C es ≡ tuples d C (keep (under C) es)
   tuples-local d C es =
-      sublists-drop (under C) (λ (τ : List (Entry A)). isTuple d C (map cl τ)) es (λ τ h e m. part-inside d C (map cl τ) h (cl e) (Memᴰ·map cl m))
+      sublists-drop (under C) (λ (τ : List (Entry A)). isTuple d C (map cl τ)) es
+      (λ τ h e m. part-inside d C (map cl τ) h (cl e) (Memᴰ·map cl m))
 
   scored-local : (d C : ℕ) (t t′ : List (Entry A)) → keep (under C) t ≡ keep (under C) t′ → tuples d C (keep sc t) ≡ tuples d C (keep sc t′)
   scored-local d C t t′ e =
@@ -71,8 +74,7 @@ module _ (c : ℕ) (z : ℤ) (s : ℕ) where
       other t = n (subst (λ (x : ℕ). T (inside c x)) (sym (eqb→eq (r .cluster) c t)) (inside-refl c))
 
   pub put-clusters : (rs : List Row) → clustersOf (map (putScore c z s) rs) ≡ clustersOf rs
-  put-clusters [] = refl
-  put-clusters (r ∷ rs) = ap₂ (λ (x : ℕ) (cs : List ℕ). x ∷ cs) (put-cluster r) (put-clusters rs)
+  put-clusters = map-through (putScore c z s) (λ (r : Row). r .cluster) (λ (r : Row). r .cluster) put-cluster
 
   -- ---- any local row formula
   module _ {A : Type 0} (F : Row → List (Entry A) → A) (local : Local F) where
@@ -82,55 +84,64 @@ module _ (c : ℕ) (z : ℤ) (s : ℕ) where
     abbrev putE : Entry A → Entry A
     putE e = record { row = put (e .row); val = e .val }
 
-    -- what doesn't contain c stays, and so does all that lies inside it
-    same-below : (rs : List Row) (X : ℕ) → (T (inside c X) → ⊥) → keep (under X) (tableOf F rs) ≡ keep (under X) (tableOf F (map put rs))
+    -- the table of the rows, and that of the changed rows
+    abbrev before : List Row → List (Entry A)
+    before rs = tableOf F rs
+
+    abbrev after : List Row → List (Entry A)
+    after rs = tableOf F (map put rs)
+
+    -- they agree inside X
+    abbrev Same : List Row → ℕ → Type 0
+    Same rs X = keep (under X) (before rs) ≡ keep (under X) (after rs)
+
+    -- the first entry of the one, and of the other
+    abbrev old : Row → List Row → Entry A
+    old r rs = record { row = r; val = F r (before rs) }
+
+    abbrev new : Row → List Row → Entry A
+    new r rs = record { row = put r; val = F (put r) (after rs) }
+
+    same-entry : (r : Row) (rs : List Row) → (T (inside c (r .cluster)) → ⊥) → Same rs (r .cluster) → old r rs ≡ new r rs
+    same-entry r rs out ih =
+        ap (λ (x : A). record { row = r; val = x }) (local r (before rs) (after rs) ih)
+        ∙ ap (λ (q : Row). record { row = q; val = F q (after rs) }) (sym (put-other r out))
+
+    -- inside X, which doesn't contain c, nothing changes
+    same-below : (rs : List Row) (X : ℕ) → (T (inside c X) → ⊥) → Same rs X
     same-below [] X n = refl
-    same-below (r ∷ rs) X n = go (T-dec (inside (r .cluster) X)) (same-below rs X n) (λ n′. same-below rs (r .cluster) n′)
+    same-below (r ∷ rs) X n = go (T-dec (inside (r .cluster) X)) (same-below rs X n) (λ out. same-below rs (r .cluster) out)
       where
-        old : Entry A
-        old = record { row = r; val = F r (tableOf F rs) }
-
-        new : Entry A
-        new = record { row = put r; val = F (put r) (tableOf F (map put rs)) }
-
-        under-new : under X new ≡ inside (r .cluster) X
+        under-new : under X (new r rs) ≡ inside (r .cluster) X
         under-new = ap (λ (x : ℕ). inside x X) (put-cluster r)
 
-        same-head : ((T (inside c (r .cluster)) → ⊥) → keep (under (r .cluster)) (tableOf F rs) ≡ keep (under (r .cluster)) (tableOf F (map put rs)))
-            → T (inside (r .cluster) X) → old ≡ new
-        same-head ih i =
+        go : T (inside (r .cluster) X) ⊎ (T (inside (r .cluster) X) → ⊥) → Same rs X
+            → ((T (inside c (r .cluster)) → ⊥) → Same rs (r .cluster)) → Same (r ∷ rs) X
+        go (inr f) ih beneath =
+            ap₂ (λ (b : Bool) (l : List (Entry A)). keepIf b (old r rs) l) (T-false (inside (r .cluster) X) f) ih
+            ∙ ap (λ (b : Bool). keepIf b (new r rs) (keep (under X) (after rs))) (sym (under-new ∙ T-false (inside (r .cluster) X) f))
+        go (inl i) ih beneath =
             let out : T (inside c (r .cluster)) → ⊥ = λ h. n (inside-trans c (r .cluster) X h i) in
-            ap (λ (x : A). record { row = r; val = x }) (local r (tableOf F rs) (tableOf F (map put rs)) (ih out))
-            ∙ ap (λ (q : Row). record { row = q; val = F q (tableOf F (map put rs)) }) (sym (put-other r out))
-
-        go : T (inside (r .cluster) X) ⊎ (T (inside (r .cluster) X) → ⊥) → keep (under X) (tableOf F rs) ≡ keep (under X) (tableOf F (map put rs))
-            → ((T (inside c (r .cluster)) → ⊥) → keep (under (r .cluster)) (tableOf F rs) ≡ keep (under (r .cluster)) (tableOf F (map put rs)))
-            → keepIf (inside (r .cluster) X) old (keep (under X) (tableOf F rs)) ≡ keepIf (under X new) new (keep (under X) (tableOf F (map put rs)))
-        go (inr f) ih ih′ =
-            ap₂ (λ (b : Bool) (l : List (Entry A)). keepIf b old l) (T-false (inside (r .cluster) X) f) ih
-            ∙ ap (λ (b : Bool). keepIf b new (keep (under X) (tableOf F (map put rs)))) (sym (under-new ∙ T-false (inside (r .cluster) X) f))
-        go (inl i) ih ih′ =
-            ap₂ (λ (x : Entry A) (l : List (Entry A)). keepIf (inside (r .cluster) X) x l) (same-head ih′ i) ih
-            ∙ ap (λ (b : Bool). keepIf b new (keep (under X) (tableOf F (map put rs)))) (sym under-new)
+            ap₂ (λ (x : Entry A) (l : List (Entry A)). keepIf (inside (r .cluster) X) x l) (same-entry r rs out (beneath out)) ih
+            ∙ ap (λ (b : Bool). keepIf b (new r rs) (keep (under X) (after rs))) (sym under-new)
 
     pub again-is-table : (rs : List Row) → again F c (map putE (tableOf F rs)) ≡ tableOf F (map put rs)
     again-is-table [] = refl
     again-is-table (r ∷ rs) = go (T-dec (inside c (r .cluster))) (again-is-table rs)
       where
-        old : Entry A
-        old = record { row = put r; val = F r (tableOf F rs) }
+        scored : Entry A
+        scored = record { row = put r; val = F r (before rs) }
 
         test : inside c (put r .cluster) ≡ inside c (r .cluster)
         test = ap (inside c) (put-cluster r)
 
-        go : T (inside c (r .cluster)) ⊎ (T (inside c (r .cluster)) → ⊥) → again F c (map putE (tableOf F rs)) ≡ tableOf F (map put rs)
-            → againIf F (inside c (put r .cluster)) old (again F c (map putE (tableOf F rs))) ≡ tableOf F (put r ∷ map put rs)
-        go (inl i) ih = ap₂ (λ (b : Bool) (l : List (Entry A)). againIf F b old l) (test ∙ T-true (inside c (r .cluster)) i) ih
+        go : T (inside c (r .cluster)) ⊎ (T (inside c (r .cluster)) → ⊥) → again F c (map putE (before rs)) ≡ after rs
+            → againIf F (inside c (put r .cluster)) scored (again F c (map putE (before rs))) ≡ tableOf F (put r ∷ map put rs)
+        go (inl i) ih = ap₂ (λ (b : Bool) (l : List (Entry A)). againIf F b scored l) (test ∙ T-true (inside c (r .cluster)) i) ih
         go (inr n) ih =
-            ap₂ (λ (b : Bool) (l : List (Entry A)). againIf F b old l) (test ∙ T-false (inside c (r .cluster)) n) ih
-            ∙ ap (λ (x : A). record { row = put r; val = x } ∷ tableOf F (map put rs))
-            (local r (tableOf F rs) (tableOf F (map put rs)) (same-below rs (r .cluster) n)
-            ∙ ap (λ (q : Row). F q (tableOf F (map put rs))) (sym (put-other r n)))
+            ap₂ (λ (b : Bool) (l : List (Entry A)). againIf F b scored l) (test ∙ T-false (inside c (r .cluster)) n) ih
+            ∙ ap (λ (x : A). record { row = put r; val = x } ∷ after rs)
+            (local r (before rs) (after rs) (same-below rs (r .cluster) n) ∙ ap (λ (q : Row). F q (after rs)) (sym (put-other r n)))
 
 -- ---- any table: what a rescoring leaves alone
 
@@ -151,26 +162,32 @@ module _ {A : Type 0} (F : Row → List (Entry A) → A) (c : ℕ) where
   again-other [] = refl
   again-other (e ∷ t) = go (inside c (cl e)) refl (again-other t)
     where
-      go : (b : Bool) → inside c (cl e) ≡ b → others (again F c t) ≡ others t → others (againIf F b e (again F c t)) ≡ keepIf (not b) e (others t)
-      go true q ih = ap (λ (b : Bool). keepIf (not b) (record { row = e .row; val = F (e .row) (again F c t) }) (others (again F c t))) q ∙ ih
+      new : Entry A
+      new = record { row = e .row; val = F (e .row) (again F c t) }
+
+      go : (b : Bool) → inside c (cl e) ≡ b → others (again F c t) ≡ others t
+          → others (againIf F b e (again F c t)) ≡ keepIf (not b) e (others t)
+      go true q ih = ap (λ (b : Bool). keepIf (not b) new (others (again F c t))) q ∙ ih
       go false q ih = ap₂ (λ (b : Bool) (l : List (Entry A)). keepIf (not b) e l) q ih
 
 module _ (W : Width) (d : ℕ) (cs : List ℕ) (c : ℕ) (z : ℤ) (s : ℕ) where
   abbrev withScore : Entry Result → Entry Result
   withScore e = record { row = putScore c z s (e .row); val = e .val }
 
-  put-list-clusters : (t : List (Entry Result)) → map cl (map withScore t) ≡ map cl t
-  put-list-clusters [] = refl
-  put-list-clusters (e ∷ t) = ap₂ (λ (x : ℕ) (l : List ℕ). x ∷ l) (put-cluster c z s (e .row)) (put-list-clusters t)
+  abbrev left : List (Entry Result) → List (Entry Result)
+  left t = others (workedOut W d cs) c t
 
-  put-list-other : (t : List (Entry Result)) → others (workedOut W d cs) c (map withScore t) ≡ others (workedOut W d cs) c t
+  put-list-clusters : (t : List (Entry Result)) → map cl (map withScore t) ≡ map cl t
+  put-list-clusters = map-through withScore cl cl (λ e. put-cluster c z s (e .row))
+
+  put-list-other : (t : List (Entry Result)) → left (map withScore t) ≡ left t
   put-list-other [] = refl
   put-list-other (e ∷ t) =
-      ap (λ (b : Bool). keepIf (not b) (withScore e) (others (workedOut W d cs) c (map withScore t))) (ap (inside c) (put-cluster c z s (e .row)))
+      ap (λ (x : ℕ). keepIf (not (inside c x)) (withScore e) (left (map withScore t))) (put-cluster c z s (e .row))
       ∙ go (T-dec (inside c (cl e))) (put-list-other t)
     where
-      go : T (inside c (cl e)) ⊎ (T (inside c (cl e)) → ⊥) → others (workedOut W d cs) c (map withScore t) ≡ others (workedOut W d cs) c t
-          → keepIf (not (inside c (cl e))) (withScore e) (others (workedOut W d cs) c (map withScore t)) ≡ keepIf (not (inside c (cl e))) e (others (workedOut W d cs) c t)
+      go : T (inside c (cl e)) ⊎ (T (inside c (cl e)) → ⊥) → left (map withScore t) ≡ left t
+          → keepIf (not (inside c (cl e))) (withScore e) (left (map withScore t)) ≡ keepIf (not (inside c (cl e))) e (left t)
       go (inl i) ih = rw (T-true (inside c (cl e)) i) ih
       go (inr n) ih =
           ap₂ (λ (x : Entry Result) (l : List (Entry Result)). keepIf (not (inside c (cl e))) x l)
@@ -182,5 +199,6 @@ module _ (W : Width) (d : ℕ) (cs : List ℕ) (c : ℕ) (z : ℤ) (s : ℕ) whe
   pub rescore-other : (t : List (Entry Result)) → others (workedOut W d cs) c (rescored W d cs c z s t) ≡ others (workedOut W d cs) c t
   rescore-other t = again-other (workedOut W d cs) c (map withScore t) ∙ put-list-other t
 
-  pub rescore-is-table : (rs : List Row) → rescored W d cs c z s (tableOf (workedOut W d cs) rs) ≡ tableOf (workedOut W d cs) (map (putScore c z s) rs)
+  pub rescore-is-table : (rs : List Row)
+      → rescored W d cs c z s (tableOf (workedOut W d cs) rs) ≡ tableOf (workedOut W d cs) (map (putScore c z s) rs)
   rescore-is-table rs = again-is-table c z s (workedOut W d cs) (worked-local W d cs) rs

@@ -98,28 +98,21 @@ scored-append up qs =
     ap clustersOf (keep-append isScored up qs) ∙ map-append (λ (r : Row). r .cluster) (keep isScored up) (keep isScored qs)
 
 module _ (w d : ℕ) (up : List Row) (r : Row) (qs : List Row) (f : RowFacts w (up ++ (r ∷ qs))) where
-  not-strict : (c : ℕ) → Mem c (scoredIn (up ++ (r ∷ []))) → T (strict c (r .cluster)) → ⊥
-  not-strict c m h = at (q .0) (q .1) (q .3)
+  above : (x : Row) → Mem x up → r .cluster < x .cluster
+  above x m = falling-above (clustersOf up) (r .cluster) (clustersOf qs) falls (x .cluster) (Memᴰ·map (λ (y : Row). y .cluster) m)
     where
-      q : (x : Row) × Mem x (up ++ (r ∷ [])) × T (isScored x) × (x .cluster ≡ c)
-      q = mem-scored (up ++ (r ∷ [])) c m
-
       falls : Falling (clustersOf up ++ (r .cluster ∷ clustersOf qs))
       falls = rw (← map-append (λ (x : Row). x .cluster) up (r ∷ qs)) (f .falls)
 
-      above : (x : Row) → Mem x up → r .cluster < x .cluster
-      above x j =
-          falling-above (clustersOf up) (r .cluster) (clustersOf qs) falls (x .cluster) (Memᴰ·map (λ (y : Row). y .cluster) j)
+  not-strict : (c : ℕ) → Mem c (scoredIn (up ++ (r ∷ []))) → T (strict c (r .cluster)) → ⊥
+  not-strict c m h = let q = mem-scored (up ++ (r ∷ [])) c m in at (q .0) (q .3) (List·Memᴰ·append-cases up (q .1))
+    where
+      s : T (inside c (r .cluster)) × (c ≢ r .cluster)
+      s = strict→ c (r .cluster) h
 
-      at : (x : Row) → Mem x (up ++ (r ∷ [])) → x .cluster ≡ c → ⊥
-      at x k e = go (List·Memᴰ·append-cases up k)
-        where
-          s : T (inside c (r .cluster)) × (c ≢ r .cluster)
-          s = strict→ c (r .cluster) h
-
-          go : Mem x up ⊎ Mem x (r ∷ []) → ⊥
-          go (inl j) = omega (arith, above x j, le-of-inside c (r .cluster) (s .0), e)
-          go (inr j) = s .1 (sym e ∙ ap (λ (y : Row). y .cluster) (List·Memᴰ·eq-of-singleton j))
+      at : (x : Row) → x .cluster ≡ c → Mem x up ⊎ Mem x (r ∷ []) → ⊥
+      at x e (inl j) = omega (arith, above x j, le-of-inside c (r .cluster) (s .0), e)
+      at x e (inr j) = s .1 (sym e ∙ ap (λ (y : Row). y .cluster) (List·Memᴰ·eq-of-singleton j))
 
   pub tuples-beneath : keep (isTuple d (r .cluster)) (sublists (scoredIn (up ++ (r ∷ qs))))
       ≡ keep (isTuple d (r .cluster)) (sublists (scoredIn qs))

@@ -1,8 +1,9 @@
 -- Rows that fall: the largest cluster first, none twice, none empty, all within the width.
 --     RowFacts w rs          what holds of the rows of any accepted list of w taxa
 --     facts-tail             and of its smaller rows
+--     above-rest             the first row is above the others
 --     table-rows, table-row, row-table, table-clusters   the rows of a table, by any row formula, are the rows it was made of
---     scored-mem, mem-scored the clusters of the scored rows
+--     scored-mem, mem-scored     the clusters of the scored rows
 --     scored-once            none of them twice
 --     givenOf                the question about trees that rows ask
 -- Assumes nothing.

@@ -6,9 +6,11 @@
 --     scan f R es s                  onto s, what f gives for each scored row that leads R
 --     share, gain n R es e           what the row e adds to the search of R, with n children left beside it
 --     search n R es                  the search, with n children left
---     search-none, search-one, search-more    the search, by the children left; search-suc is search-more at the number's shape
+--     search-none, search-one, search-more    the search, by the children left
+--     search-suc                     the last, at the number's shape
 --     gain-whole, gain-part          what a row adds: it is all of R, or a part
---     lookup-row, lookup-missing     a row that is there, by its score, and one that isn't; lookup-cons is the first row
+--     lookup-cons                    the first row
+--     lookup-row, lookup-missing     a row that is there, by its score, and one that isn't
 --     scan-ended, scan-cons          a scan by the list's shape
 --     scan-added, scan-passed        a row that is added, and one that is passed over
 --     scan-over, scan-unscored, scan-outside  the reasons to pass over a row: it is above R, unscored, not inside R

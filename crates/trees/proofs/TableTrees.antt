@@ -1,6 +1,7 @@
 -- A table built by the row formula over lists of families holds, in each scored row, the trees on its cluster, each once.
 --     treesKind              the kind of result whose values are lists of families
 --     Lowest G rs            the rows are the lowest of a list: every listed cluster that is not above them is among them
+--     AllRight G es          each scored entry has the trees on its cluster, each once
 --     build-right            the theorem, for the lowest rows of a list
 --     table-right            and for all rows of a list
 -- Assumes nothing.
@@ -18,20 +19,18 @@ use Rattle.laws.proofs.Tests.{true-T}
 use Rattle.laws.proofs.Keep.{mem-keep, mem-of-keep}
 use Rattle.laws.proofs.Once.{once-map-keep}
 use Rattle.laws.proofs.Cluster.{le-of-inside, strict→}
-use Rattle.trees.specs.Rows.{Row, isScored, clustersOf, Entry, cl, sc}
+use Rattle.trees.specs.Rows.{Row, isScored, clustersOf, cl, sc}
 use Rattle.trees.specs.Tuple.{tuples}
 use Rattle.trees.proofs.Families.{Fam, empty, one, cross}
 use Rattle.trees.proofs.Kind.{Kind, prodK, overTuples, valueIf, value, build}
 use Rattle.trees.proofs.TreeFacts.{Given}
-use Rattle.trees.proofs.Cuts.{Right, combos}
+use Rattle.trees.proofs.Cuts.{TreeEntry, Right, combos}
 use Rattle.trees.proofs.RowTrees.{Beneath, single-right, row-right}
-use Rattle.trees.proofs.Rows.{RowFacts, facts-tail, above-rest, table-row, row-table, table-clusters, scored-mem, mem-scored, givenOf}
+use Rattle.trees.proofs.Rows.{RowFacts, facts-tail, above-rest, table-row, row-table, table-clusters}
+use Rattle.trees.proofs.Rows.{scored-mem, mem-scored, givenOf}
 
 abbrev pub treesKind : Kind (List Fam)
 treesKind = record { none = []; unit = empty ∷ []; plus = _++_; times = cross; own = λ r. one (r .cluster) ∷ [] }
-
-abbrev E : Type 0
-E = Entry (List Fam)
 
 -- the row of a listed cluster
 abbrev RowOf : ℕ → List Row → Type 0
@@ -53,37 +52,37 @@ module _ (G : Given) where
       go c p k h x = at c p (x .0) k h (x .1) (x .2) (x .3)
 
   -- ---- the row formula, in the words of `RowTrees.antt`
-  prod-combos : (τ : List E) → prodK treesKind τ ≡ combos G τ
+  prod-combos : (τ : List TreeEntry) → prodK treesKind τ ≡ combos G τ
   prod-combos [] = refl
   prod-combos (e ∷ τ) = ap (cross (e .val)) (prod-combos τ)
 
-  sum-bind : (τs : List (List E)) → overTuples treesKind τs ≡ bind (combos G) τs
+  sum-bind : (τs : List (List TreeEntry)) → overTuples treesKind τs ≡ bind (combos G) τs
   sum-bind [] = refl
   sum-bind (τ ∷ τs) = ap₂ (λ (x y : List Fam). x ++ y) (prod-combos τ) (sum-bind τs)
 
-  abbrev pub AllRight : List E → Type 0
-  AllRight es = (e : E) → Mem e es → T (sc e) → Right G (cl e) (e .val)
+  abbrev pub AllRight : List TreeEntry → Type 0
+  AllRight es = (e : TreeEntry) → Mem e es → T (sc e) → Right G (cl e) (e .val)
 
   module _ (r : Row) (rs : List Row) (f : RowFacts (G .width) (r ∷ rs)) (l : Lowest G (r ∷ rs)) (s : T (isScored r)) where
-    abbrev tab : List E
+    abbrev tab : List TreeEntry
     tab = build treesKind (G .degree) rs
 
-    abbrev es : List E
+    abbrev es : List TreeEntry
     es = keep sc tab
 
-    row-of : (x : E) → Mem x es → Mem (x .row) rs × T (sc x)
+    row-of : (x : TreeEntry) → Mem x es → Mem (x .row) rs × T (sc x)
     row-of x m = let q = mem-of-keep sc tab m in (table-row (value treesKind (G .degree)) rs x (q .0), q .1)
 
-    below : (c : ℕ) → Mem c (G .listed) → T (strict c (r .cluster)) → (x : E) × Mem x es × (cl x ≡ c)
+    below : (c : ℕ) → Mem c (G .listed) → T (strict c (r .cluster)) → (x : TreeEntry) × Mem x es × (cl x ≡ c)
     below c m k = go (l .down c m r (here refl) (le-of-inside c (r .cluster) (strict→ c (r .cluster) k .0)))
       where
-        at : (q : Row) → Mem q (r ∷ rs) → T (isScored q) → q .cluster ≡ c → (x : E) × Mem x es × (cl x ≡ c)
+        at : (q : Row) → Mem q (r ∷ rs) → T (isScored q) → q .cluster ≡ c → (x : TreeEntry) × Mem x es × (cl x ≡ c)
         at q (here e) t g = absurd (strict→ c (r .cluster) k .1 (sym g ∙ ap (λ (z : Row). z .cluster) e))
         at q (there n) t g =
             let x = row-table (value treesKind (G .degree)) rs q n in
             (x .0, mem-keep sc tab (x .1) (subst (λ (z : Row). T (isScored z)) (sym (x .2)) t), ap (λ (z : Row). z .cluster) (x .2) ∙ g)
 
-        go : RowOf c (r ∷ rs) → (x : E) × Mem x es × (cl x ≡ c)
+        go : RowOf c (r ∷ rs) → (x : TreeEntry) × Mem x es × (cl x ≡ c)
         go x = at (x .0) (x .1) (x .2) (x .3)
 
     once-tab : Once (map cl es)
@@ -104,15 +103,17 @@ module _ (G : Given) where
     head-right : AllRight tab → (b : Bool) → single (r .cluster) ≡ b → Right G (r .cluster) (valueIf treesKind true b (G .degree) r tab)
     head-right ih true e = single-right G (r .cluster) (l .listed r (here refl) s) (true-T e)
     head-right ih false e =
-        subst (λ (x : List Fam). Right G (r .cluster) (cross (one (r .cluster) ∷ []) x)) (sym (sum-bind (tuples (G .degree) (r .cluster) es)))
+        subst (λ (x : List Fam). Right G (r .cluster) (cross (one (r .cluster) ∷ []) x))
+        (sym (sum-bind (tuples (G .degree) (r .cluster) es)))
         (row-right G (r .cluster) es (beneath ih) (λ t. subst T e t))
 
   pub build-right : (rs : List Row) → RowFacts (G .width) rs → Lowest G rs → AllRight (build treesKind (G .degree) rs)
   build-right [] f l e m s = absurd (mem-nil m)
   build-right (r ∷ rs) f l e (there m) s = build-right rs (facts-tail (G .width) r rs f) (lowest-tail r rs f l) e m s
   build-right (r ∷ rs) f l e (here q) s =
-      subst (λ (x : E). Right G (cl x) (x .val)) (sym q)
-      (at (isScored r) refl (subst (λ (x : E). T (sc x)) q s) (build-right rs (facts-tail (G .width) r rs f) (lowest-tail r rs f l)))
+      subst (λ (x : TreeEntry). Right G (cl x) (x .val)) (sym q)
+      (at (isScored r) refl (subst (λ (x : TreeEntry). T (sc x)) q s)
+      (build-right rs (facts-tail (G .width) r rs f) (lowest-tail r rs f l)))
     where
       at : (b : Bool) → isScored r ≡ b → T b → AllRight (build treesKind (G .degree) rs)
           → Right G (r .cluster) (valueIf treesKind b (single (r .cluster)) (G .degree) r (build treesKind (G .degree) rs))

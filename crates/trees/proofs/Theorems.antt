@@ -3,13 +3,15 @@
 --     none-iff, count-iff               "no tree" exactly where there is none, and count zero exactly then
 --     best-is-tree, best-first, best-only     the best is a tree, comes before every other, and is the only one that does
 --     best-heaviest                     and no tree is heavier
+--     put-facts                         changed rows are rows as before
 --     rescore-is-build                  demand 3: rescoring a built table is the build of the changed rows
 --     rescore-keeps-rows                and no row changes that doesn't contain the rescored cluster, in any table
--- The tie rule as a strict total order stands in `TieRule.antt`.
+-- The tie rule as a strict total order stands in `TieRule.antt`, the search in `SearchSum.antt` and `TuplesMet.antt`, the bounds in
+-- `TupleBound.antt` and `TreeSize.antt`.
 -- Assumes nothing.
 use mathlib.Core.Path.{_≡_, refl, sym, ap, _∙_, subst}
 use mathlib.Core.Logic.{_⊎_, inl, inr, _≢_, _↔_}
-use mathlib.Core.Option.{Option, none, some}
+use mathlib.Core.Option.{none, some, Option·none-ne-some}
 use mathlib.Core.List.{List, [], _∷_, map, Memᴰ·of-map}
 use mathlib.Core.List.{List·Memᴰ as Mem}
 use Prim.Native.Nat.{ℕ, suc, _≤_, _<_, _^_}
@@ -28,6 +30,7 @@ use Rattle.trees.specs.Heaviest.{weightOf, comesFirst, firstHeaviest}
 use Rattle.trees.specs.Result.{Result, countField}
 use Rattle.trees.specs.Built.{builtTable}
 use Rattle.trees.specs.Rescored.{putScore, workedOut, rescored}
+use Rattle.trees.proofs.Kind.{tableOf}
 use Rattle.trees.proofs.Rows.{RowFacts}
 use Rattle.trees.proofs.KeyOrder.{Before, before→}
 use Rattle.trees.proofs.FirstHeaviest.{setKey, comes-is-key, first-some, first-mem, first-before, first-only}
@@ -47,7 +50,9 @@ module _ (w d : ℕ) (rs : List Row) (f : RowFacts w rs) (C : ℕ) where
     where
       to : (ts : List (List ℕ)) → ((xs : List ℕ) → Mem xs ts → Mem xs (sublists (clustersOf rs))) → firstHeaviest rs ts ≡ none → ts ≡ []
       to [] s e = refl
-      to (xs ∷ ts) s e = let q = first-some rs (f .falls) (nonzero w d rs f) xs ts s in absurd (mathlib.Core.Option.Option·none-ne-some (q .0) (sym e ∙ q .1))
+      to (xs ∷ ts) s e =
+          let q = first-some rs (f .falls) (nonzero w d rs f) xs ts s in
+          absurd (Option·none-ne-some (q .0) (sym e ∙ q .1))
 
   module _ (xs : List ℕ) (found : firstHeaviest rs trees ≡ some xs) where
     pub best-is-tree : Mem xs trees
@@ -69,7 +74,8 @@ module _ (w d : ℕ) (rs : List Row) (f : RowFacts w rs) (C : ℕ) where
             at (before→ (setKey rs xs) (setKey rs ys)
             (subst T (comes-is-key rs (f .falls) (nonzero w d rs f) xs ys (sets w d rs f C xs best-is-tree) (sets w d rs f C ys m)) t))
 
-  pub best-only : (zs : List ℕ) → Mem zs trees → ((ys : List ℕ) → Mem ys trees → (zs ≡ ys) ⊎ T (comesFirst rs zs ys)) → firstHeaviest rs trees ≡ some zs
+  pub best-only : (zs : List ℕ) → Mem zs trees → ((ys : List ℕ) → Mem ys trees → (zs ≡ ys) ⊎ T (comesFirst rs zs ys))
+      → firstHeaviest rs trees ≡ some zs
   best-only zs m h = first-only rs (f .falls) (nonzero w d rs f) trees (sets w d rs f C) zs m h
 
   -- a count field is zero exactly where the count is
@@ -93,14 +99,15 @@ module _ (W : Width) (d : ℕ) (c : ℕ) (z : ℤ) (s : ℕ) (rs : List Row) whe
       fits : (q : Row) → Mem q (map (putScore c z s) rs) → (q .cluster ≢ 0) × (q .cluster < 2 ^ w)
       fits q m =
           let x = Memᴰ·of-map (putScore c z s) rs m in
-          subst (λ (n : ℕ). (n ≢ 0) × (n < 2 ^ w)) (sym (put-cluster c z s (x .0)) ∙ ap (λ (r : Row). r .cluster) (x .2)) (f .fits (x .0) (x .1))
+          let same = sym (put-cluster c z s (x .0)) ∙ ap (λ (r : Row). r .cluster) (x .2) in
+          subst (λ (n : ℕ). (n ≢ 0) × (n < 2 ^ w)) same (f .fits (x .0) (x .1))
 
   pub rescore-is-build : 1 ≤ W .countMax → RowFacts (W .taxa) rs
       → rescored W d (clustersOf rs) c z s (builtTable W d rs) ≡ builtTable W d (map (putScore c z s) rs)
   rescore-is-build p f =
       ap (rescored W d (clustersOf rs) c z s) (sym (worked-is-built W p d rs f))
       ∙ rescore-is-table W d (clustersOf rs) c z s rs
-      ∙ ap (λ (cs : List ℕ). Rattle.trees.proofs.Kind.tableOf (workedOut W d cs) (map (putScore c z s) rs)) (sym (put-clusters c z s rs))
+      ∙ ap (λ (cs : List ℕ). tableOf (workedOut W d cs) (map (putScore c z s) rs)) (sym (put-clusters c z s rs))
       ∙ worked-is-built W p d (map (putScore c z s) rs) (put-facts (W .taxa) f)
 
 pub rescore-keeps-rows : (W : Width) (d : ℕ) (cs : List ℕ) (c : ℕ) (z : ℤ) (s : ℕ) (t : List (Entry Result))

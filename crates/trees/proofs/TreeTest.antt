@@ -82,35 +82,40 @@ module _ (G : Given) where
     abbrev members : List ℕ
     members = keep S (G .listed)
 
+    member→ : (c : ℕ) → Mem c members → T (S c)
+    member→ c m = mem-of-keep S (G .listed) m .1
+
+    -- the taxa of C are members, as the test says it and as a tree does
+    leaf-in : Tree G C S → (u : ℕ) → (t : ℕ) × (t < G .width) × (u ≡ 2 ^ t) → T (inside u C) ⊎ (T (inside u C) → ⊥)
+        → T (not (inside u C) || elem u members)
+    leaf-in tr u q (inr n) = or-l (not (inside u C)) (elem u members) (not-T (inside u C) n)
+    leaf-in tr u q (inl i) =
+        let t : T (S (2 ^ q .0)) = tr .leaves (q .0) (q .1) (subst (λ (x : ℕ). T (inside x C)) (q .2) i) in
+        let s : T (S u) = subst (λ (x : ℕ). T (S x)) (sym (q .2)) t in
+        or-r (not (inside u C)) (elem u members) (→elem u members (mem-keep S (G .listed) (tr .listed u s) s))
+
+    leaf-of : (t : ℕ) → T (inside (2 ^ t) C) → T (not (inside (2 ^ t) C)) ⊎ T (elem (2 ^ t) members) → T (S (2 ^ t))
+    leaf-of t i (inl n) = absurd (T-not (inside (2 ^ t) C) n i)
+    leaf-of t i (inr m) = member→ (2 ^ t) (elem→ (2 ^ t) members m)
+
     pub tree→test : Tree G C S → T (isTree (G .width) (G .degree) C members)
     tree→test tr = passes G C members (record {
-      within = →every (λ (m : ℕ). inside m C) members (λ m k. tr .within m (S-of m k));
+      within = →every (λ (m : ℕ). inside m C) members (λ m k. tr .within m (member→ m k));
       top = →elem C members (mem-keep S (G .listed) (tr .listed C (tr .top)) (tr .top));
       leaves = →every (λ (u : ℕ). not (inside u C) || elem u members) (taxa (G .width))
-          (λ u k. leaf u (mem-taxa (G .width) u k) (T-dec (inside u C)));
+          (λ u k. leaf-in tr u (mem-taxa (G .width) u k) (T-dec (inside u C)));
       laminar = →every (λ (a : ℕ). every (λ (b : ℕ). nested a b) members) members
-          (λ a k. →every (λ (b : ℕ). nested a b) members (λ b j. tr .laminar a b (S-of a k) (S-of b j)));
+          (λ a k. →every (λ (b : ℕ). nested a b) members (λ b j. tr .laminar a b (member→ a k) (member→ b j)));
       bounded = →every (isFew G C members) members (λ m k.
-          subst (λ (x : List ℕ). T (single m || leb (length x) (G .degree - 1))) (sym (kids-children S m)) (tr .bounded m (S-of m k)));
+          subst (λ (x : List ℕ). T (single m || leb (length x) (G .degree - 1))) (sym (kids-children S m)) (tr .bounded m (member→ m k)));
     })
-      where
-        S-of : (m : ℕ) → Mem m members → T (S m)
-        S-of m k = mem-of-keep S (G .listed) k .1
-
-        leaf : (u : ℕ) → (t : ℕ) × (t < G .width) × (u ≡ 2 ^ t) → T (inside u C) ⊎ (T (inside u C) → ⊥)
-            → T (not (inside u C) || elem u members)
-        leaf u q (inr n) = or-l (not (inside u C)) (elem u members) (not-T (inside u C) n)
-        leaf u q (inl i) =
-            let t : T (S (2 ^ q .0)) = tr .leaves (q .0) (q .1) (subst (λ (x : ℕ). T (inside x C)) (q .2) i) in
-            let s : T (S u) = subst (λ (x : ℕ). T (S x)) (sym (q .2)) t in
-            or-r (not (inside u C)) (elem u members) (→elem u members (mem-keep S (G .listed) (tr .listed u s) s))
 
     pub test→tree : ((c : ℕ) → T (S c) → Mem c (G .listed)) → T (isTree (G .width) (G .degree) C members) → Tree G C S
     test→tree all h = record {
       listed = all;
       within = λ c x. every→ (λ (m : ℕ). inside m C) members (p .within) c (is-member c x);
-      top = mem-of-keep S (G .listed) (elem→ C members (p .top)) .1;
-      leaves = λ t l i. leaf t i (T-or (not (inside (2 ^ t) C)) (elem (2 ^ t) members)
+      top = member→ C (elem→ C members (p .top));
+      leaves = λ t l i. leaf-of t i (T-or (not (inside (2 ^ t) C)) (elem (2 ^ t) members)
           (every→ (λ (u : ℕ). not (inside u C) || elem u members) (taxa (G .width)) (p .leaves) (2 ^ t) (taxa-mem (G .width) t l)));
       laminar = λ a b x y. every→ (λ (b : ℕ). nested a b) members
           (every→ (λ (a : ℕ). every (λ (b : ℕ). nested a b) members) members (p .laminar) a (is-member a x)) b (is-member b y);
@@ -123,10 +128,6 @@ module _ (G : Given) where
 
         is-member : (c : ℕ) → T (S c) → Mem c members
         is-member c x = mem-keep S (G .listed) (all c x) x
-
-        leaf : (t : ℕ) → T (inside (2 ^ t) C) → T (not (inside (2 ^ t) C)) ⊎ T (elem (2 ^ t) members) → T (S (2 ^ t))
-        leaf t i (inl n) = absurd (T-not (inside (2 ^ t) C) n i)
-        leaf t i (inr m) = mem-of-keep S (G .listed) (elem→ (2 ^ t) members m) .1
 
   -- ---- a set of the definition, as a family
   abbrev pub famOf : List ℕ → Fam

@@ -1,4 +1,5 @@
 -- Every tree on a cluster of two or more taxa has its tuple, the children of the whole, and is a tree inside each of them.
+--     isChild           the cluster of a row is a child of the whole
 --     tupleIn           the rows beneath whose clusters are children of the whole
 --     tuple-found       they are a tuple
 --     tree-cut          the other members are a cut along it

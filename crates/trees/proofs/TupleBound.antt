@@ -13,7 +13,7 @@ use mathlib.Core.List.{List·Memᴰ as Mem}
 use Prim.Native.Nat.{ℕ, _-_, _≤_, _<_, zero-le}
 use native.Mathlib.Nat.{le-refl, le-trans}
 use native.Mathlib.Omega.{arith}
-use lib.Dec.{T, eqb, eqb→eq, T-not, not-T}
+use lib.Dec.{T, eqb}
 use lib.ListN.{length, length-map}
 use Rattle.laws.specs.Cluster.{single}
 use Rattle.laws.specs.Limits.{narrow, degreeHigh}
@@ -21,23 +21,15 @@ use Rattle.laws.specs.Lists.{keep, sublists}
 use Rattle.laws.proofs.Choose.{few, few-mono, fewFour, few-four, Sized, few-le, few-le-other}
 use Rattle.laws.proofs.Keep.{mem-keep, mem-of-keep, length-keep-le}
 use Rattle.laws.proofs.Sublists.{mem-of-sublist}
-use Rattle.laws.proofs.Tests.{T-and, eq→eqb}
+use Rattle.laws.proofs.Tests.{T-and, neq→, →neq}
 use Rattle.trees.specs.Rows.{Row, isScored, scoredIn, Entry, cl}
 use Rattle.trees.specs.Tuple.{isTuple, tuples}
 use Rattle.trees.specs.Built.{rowLength}
 use Rattle.trees.proofs.Tuples.{tuple→, part-other}
 
 -- every cluster but C
-other : ℕ → ℕ → Bool
+abbrev other : ℕ → ℕ → Bool
 other C c = not (eqb c C)
-
-not-other : (C c : ℕ) → c ≡ C → T (other C c) → ⊥
-unfolding other
-not-other C c e h = T-not (eqb c C) h (eq→eqb c C e)
-
-is-other : (C c : ℕ) → c ≢ C → T (other C c)
-unfolding other
-is-other C c n = not-T (eqb c C) (λ h. n (eqb→eq c C h))
 
 -- ---- tuples of clusters
 
@@ -50,8 +42,8 @@ tuples-le d C L = few-le (isTuple d C) (d - 1) (tuple-sized d C) L
 pub tuples-le-other : (d C : ℕ) (L : List ℕ) → ((c : ℕ) → Mem c L → c ≢ 0) → Mem C L
     → length (keep (isTuple d C) (sublists L)) ≤ few (length L - 1) (d - 1)
 tuples-le-other d C L nz m =
-    few-le-other (isTuple d C) (d - 1) (tuple-sized d C) (other C) L C m (not-other C C refl)
-    (λ s k h c j. is-other C c (part-other d C s (λ x i. nz x (mem-of-sublist L s k x i)) h c j))
+    few-le-other (isTuple d C) (d - 1) (tuple-sized d C) (other C) L C m (λ h. neq→ C C h refl)
+    (λ s k h c j. →neq c C (part-other d C s (λ x i. nz x (mem-of-sublist L s k x i)) h c j))
 
 -- ---- tuples of entries
 
@@ -66,10 +58,10 @@ module _ {A : Type 0} where
       → length (tuples d C es) ≤ few (length es - 1) (d - 1)
   entries-le-other d C es nz e m q =
       few-le-other (λ (τ : List (Entry A)). isTuple d C (map cl τ)) (d - 1) (entry-sized d C) (λ (x : Entry A). other C (cl x)) es e m
-      (not-other C (cl e) q) part
+      (λ h. neq→ (cl e) C h q) part
     where
       part : (τ : List (Entry A)) → Mem τ (sublists es) → T (isTuple d C (map cl τ)) → (x : Entry A) → Mem x τ → T (other C (cl x))
-      part τ k h x j = is-other C (cl x) (part-other d C (map cl τ) nonzero h (cl x) (Memᴰ·map cl j))
+      part τ k h x j = →neq (cl x) C (part-other d C (map cl τ) nonzero h (cl x) (Memᴰ·map cl j))
         where
           nonzero : (c : ℕ) → Mem c (map cl τ) → c ≢ 0
           nonzero c i z = let y = Memᴰ·of-map cl τ i in nz (y .0) (mem-of-sublist es τ k (y .0) (y .1)) (y .2 ∙ z)

@@ -108,7 +108,8 @@ module _ (limit : ℕ) (pos-limit : 1 ≤ limit) (bit : ℕ → ℕ) where
       key : Option Sol → Key
       key v = joinK (encodeSol limit (e .val .0) v .best, encodeSol limit (e .val .0) v .members) (keyOf (F τ))
 
-      at : (v : Option Sol) → Counted v → liveKey (isLive (F τ)) (keyOf (F τ)) ≡ keyPart P → liveKey (live v) (key v) ≡ keyPart (timesSol v P)
+      at : (v : Option Sol) → Counted v → liveKey (isLive (F τ)) (keyOf (F τ)) ≡ keyPart P
+          → liveKey (live v) (key v) ≡ keyPart (timesSol v P)
       at none h ih = refl
       at (some x) h ih =
           ap (λ (b : Bool). liveKey (b && isLive (F τ)) (joinK (x .1) (keyOf (F τ)))) (count-live (x .0) h)
@@ -186,7 +187,8 @@ module _ (W : Width) (pos-limit : 1 ≤ W .countMax) (d : ℕ) (cs : List ℕ) (
       ∙ ap₂ (λ (n : ℕ) (k : Option Key). joined W cs r n fields k) (length-map τs (fieldsT limit pos-limit))
       (key-is limit pos-limit (markIn cs) τs tuple-counted)
       ∙ own-times (length τs) found (count-is limit pos-limit (markIn cs) τs)
-      ∙ ap (λ (σs : List (List (Entry (Option Sol)))). encodeSol limit (length τs) (timesSol (K .own r) (overTuples K σs))) (sym seconds-are)
+      ∙ ap (λ (σs : List (List (Entry (Option Sol)))). encodeSol limit (length τs) (timesSol (K .own r) (overTuples K σs)))
+      (sym seconds-are)
 
   alone-is : alone cs r ≡ encodeSol limit 0 (K .own r)
   alone-is =

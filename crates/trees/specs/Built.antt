@@ -1,5 +1,6 @@
 -- A built row, by what a tree is and not by how it is worked out (document 01, "The table").
 --     rowLength d rs r       the number of tuples of listed scored clusters; 0 for one taxon or unscored
+--     withBest               the fields from row length, count, mark and the first heaviest tree
 --     treeResult W rs n ts   the fields of a row of length n whose cluster has the trees ts
 --     builtResult W d rs r   the fields of the row r in the table of the rows rs
 --     builtTable W d rs      every row with its fields

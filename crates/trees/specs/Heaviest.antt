@@ -1,9 +1,11 @@
 -- The weight of a tree, the tie rule, and the first heaviest of several (document 01, "What a tree is").
+--     weightIn rs p         the sum of the weights of the rows whose cluster passes the test p
 --     weightOf rs xs        the sum of the weights of the rows whose cluster is in xs, each once
 --     inOne xs ys           the clusters that are in exactly one of the two
 --     largest cs            the largest of some clusters, read as numbers; 0 where there is none
 --     tieFirst xs ys        of two sets of equal weight, xs comes first: it has the largest cluster that is in exactly one of them
 --     comesFirst rs xs ys   xs is heavier, or as heavy and first by the tie rule
+--     firstOf rs xs found   xs, or what was found among others, if that comes before xs
 --     firstHeaviest rs xss  the one of xss that comes before every other
 -- Assumes nothing.
 use mathlib.Core.Bool.{Bool, not, cond, _&&_, _||_}

@@ -1,11 +1,18 @@
 -- A row worked out from the rows beneath as they stand, and rescoring (document 01, "The table", the paragraph on rescoring). These are the
 -- paper's formulas: they fix an answer for every table, whether or not its fields came from trees.
+--     Beneath                  a row beneath, with its fields
 --     counted t, summed r t    the rows beneath that may stand in a tuple: in the row length, and in count and best
 --     timesCounts, sumCounts   the product of a tuple's counts, and the sum over tuples
 --     isLive τ, isMarked τs    no zero count in the tuple; some such tuple has a marked count
---     Key, keyOf τ, firstKey   a weight and a set; the children's bests and members joined; heaviest first, then the tie rule
+--     isMany limit τs          the count is stopped at the limit: marked by a tuple, or past it
+--     Key, keyOf τ             a weight and a set; the children's bests and members joined
+--     keyFirst, firstOfKeys, firstKey     the order of keys, heaviest first, then the tie rule; the first of two, and of several
+--     ownMark cs r             the mark of the row's own cluster
+--     joined, alone, together  the fields of a row of two or more taxa, by its tuples; of a single taxon; the first, from the rows beneath
 --     workedOut W d cs r t     the fields of row r over the rows beneath t; cs are the clusters of the whole table, the largest first
---     putScore, rescored       the new weight and state in one row; then each row that contains it, in ascending order
+--     putScore c z s r         the new weight and state in one row
+--     againIf, again F c t     each row that contains c worked out again, in ascending order
+--     rescored                 both
 -- Sets of members are numbers as in `Result.antt`: the set with the largest cluster in exactly one of two is the larger number, and the
 -- members of clusters that are apart are joined by adding.
 -- Assumes nothing.
