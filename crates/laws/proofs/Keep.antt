@@ -6,6 +6,7 @@
 --     keep-keep, some-keep            a filter after a filter, and a test after it
 --     keep-swap                       two filters, in either order
 --     keep-append, keep-map           a filter of two lists one behind the other, and of images
+--     nil-of-none                     a list with no element
 --     keep-none, keep-all             no element passes, or all do
 --     length-keep-le                  a filter leaves no more elements than there are
 -- Assumes nothing.
@@ -19,7 +20,7 @@ use native.Mathlib.Nat.{le-suc, le-trans}
 use lib.Dec.{T, eqb, eqb→eq}
 use lib.ListN.{length}
 use Rattle.laws.specs.Lists.{keepIf, keep, every, some, elem, bind}
-use Rattle.laws.proofs.Tests.{T-and, and-T, T-or, or-l, or-r, T-true, T-false, true-T, eq→eqb}
+use Rattle.laws.proofs.Tests.{T-and, and-T, T-or, or-l, or-r, T-true, true-T, eq→eqb}
 
 module _ {A : Type 0} where
   pub mem-keep : (p : A → Bool) (l : List A) {x : A} → Mem x l → T (p x) → Mem x (keep p l)
@@ -104,10 +105,12 @@ module _ {A : Type 0} where
       go true e = ap (λ (r : List A). x ∷ r) e
       go false e = e
 
+  pub nil-of-none : (l : List A) → ((x : A) → Mem x l → ⊥) → l ≡ []
+  nil-of-none [] f = refl
+  nil-of-none (x ∷ xs) f = absurd (f x (here refl))
+
   pub keep-none : (p : A → Bool) (l : List A) → ((x : A) → Mem x l → T (p x) → ⊥) → keep p l ≡ []
-  keep-none p [] f = refl
-  keep-none p (x ∷ xs) f =
-      ap₂ (λ (b : Bool) (r : List A). keepIf b x r) (T-false (p x) (f x (here refl))) (keep-none p xs (λ y m. f y (there m)))
+  keep-none p l f = nil-of-none (keep p l) (λ x m. let q = mem-of-keep p l m in f x (q .0) (q .1))
 
   pub keep-all : (p : A → Bool) (l : List A) → ((x : A) → Mem x l → T (p x)) → keep p l ≡ l
   keep-all p [] f = refl

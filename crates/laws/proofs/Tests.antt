@@ -3,6 +3,7 @@
 --     T-dec             a test passes or doesn't
 --     T-true, T-false   a test that passes, or can't, as an equation
 --     true-T            and back
+--     cond-true, cond-false     what is chosen by such a test
 --     bool-ext          tests that pass together are equal
 --     or-split          a test is itself with a second test, or without it
 --     eq→eqb            equal numbers pass the test of equality
@@ -10,7 +11,7 @@
 -- Assumes nothing.
 use mathlib.Core.Path.{_≡_, refl, sym, subst}
 use mathlib.Core.Logic.{_⊎_, inl, inr, _≢_}
-use mathlib.Core.Bool.{Bool, true, false, not, _&&_, _||_}
+use mathlib.Core.Bool.{Bool, true, false, not, cond, _&&_, _||_}
 use Prim.Native.Nat.{ℕ}
 use lib.Dec.{T, eqb, eqb→eq, eqb-refl, T-not, not-T}
 
@@ -65,6 +66,14 @@ T-true false h = absurd h
 pub T-false : (b : Bool) → (T b → ⊥) → b ≡ false
 T-false true h = absurd (h tt)
 T-false false h = refl
+
+pub cond-true : {A : Type 0} (b : Bool) (x y : A) → T b → cond b x y ≡ x
+cond-true true x y h = refl
+cond-true false x y h = absurd h
+
+pub cond-false : {A : Type 0} (b : Bool) (x y : A) → (T b → ⊥) → cond b x y ≡ y
+cond-false true x y h = absurd (h tt)
+cond-false false x y h = refl
 
 pub true-T : {b : Bool} → b ≡ true → T b
 true-T e = subst T (sym e) tt

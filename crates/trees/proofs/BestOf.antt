@@ -12,6 +12,7 @@ use mathlib.Core.List.{List·Memᴰ as Mem, List·Memᴰ·head as here, List·Me
 use Prim.Native.Nat.{ℕ, _+_, _*_}
 use lib.IntN.{pos}
 use lib.ListN.{length, length-append}
+use Rattle.laws.proofs.Keep.{nil-of-none}
 use Rattle.trees.specs.Rows.{Row, clustersOf}
 use Rattle.trees.specs.Heaviest.{weightIn}
 use Rattle.trees.specs.Result.{marksIn}
@@ -39,14 +40,10 @@ module _ (rs : List Row) where
       × ((S : Fam) × Mem S ts × (x .1 ≡ keyIn rs S))
       × ((U : Fam) → Mem U ts → AtLeast (x .1) (keyIn rs U))
 
-  nothing : (ts : List Fam) → ((S : Fam) → Mem S ts → ⊥) → ts ≡ []
-  nothing [] f = refl
-  nothing (S ∷ ts) f = absurd (f S (here refl))
-
   pub best-plus : (v u : Option Sol) (ts us : List Fam) → Best v ts → Best u us → Best (plusSol v u) (ts ++ us)
-  best-plus none u ts us h k = subst (λ (z : List Fam). Best u (z ++ us)) (sym (nothing ts h)) k
+  best-plus none u ts us h k = subst (λ (z : List Fam). Best u (z ++ us)) (sym (nil-of-none ts h)) k
   best-plus (some x) none ts us h k =
-      subst (λ (z : List Fam). Best (some x) (ts ++ z)) (sym (nothing us k)) (subst (Best (some x)) (sym (append-nil ts)) h)
+      subst (λ (z : List Fam). Best (some x) (ts ++ z)) (sym (nil-of-none us k)) (subst (Best (some x)) (sym (append-nil ts)) h)
   best-plus (some x) (some y) ts us h k = (
     ap₂ (λ (a b : ℕ). a + b) (h .0) (k .0) ∙ sym (length-append ts us),
     holder (top-cases (x .1) (y .1)),

@@ -22,6 +22,7 @@ use Rattle.laws.specs.Limits.{Width}
 use Rattle.laws.specs.Lists.{keep, sublists}
 use Rattle.laws.proofs.Falling.{falling-once}
 use Rattle.laws.proofs.Tests.{true-T}
+use Rattle.laws.proofs.Keep.{nil-of-none}
 use Rattle.laws.proofs.Once.{map-inj}
 use Rattle.trees.specs.Rows.{Row, isScored, clustersOf, scoredIn, Entry, cl, sc}
 use Rattle.trees.specs.Tree.{treesOn}
@@ -94,12 +95,8 @@ module _ (w d : ℕ) (rs : List Row) (f : RowFacts w rs) where
 
   -- an unscored cluster has none
   no-trees : (r : Row) → Mem r rs → isScored r ≡ false → trees (r .cluster) ≡ []
-  no-trees r m e = none-of (trees (r .cluster)) bad
+  no-trees r m e = nil-of-none (trees (r .cluster)) bad
     where
-      none-of : (l : List (List ℕ)) → ((xs : List ℕ) → Mem xs l → ⊥) → l ≡ []
-      none-of [] g = refl
-      none-of (xs ∷ l) g = absurd (g xs (here refl))
-
       bad : (xs : List ℕ) → Mem xs (trees (r .cluster)) → ⊥
       bad xs k =
           let tr = tree-of G (r .cluster) xs k .1 in

@@ -19,11 +19,11 @@ use Prim.Native.Nat.{ℕ, zero, suc, _+_, _*_, _≤_, _<_}
 use native.Mathlib.Decide.{decLe}
 use native.Mathlib.Nat.{mul-zero, zero-mul, one-mul, mul-one, one-le-mul, mul-le-mul-left, mul-le-mul-right, le-refl}
 use native.Mathlib.Omega.{arith}
-use lib.Dec.{eqb, leb, ltb, leb→le, le→leb, ltb→lt, lt→ltb, eqb→eq}
+use lib.Dec.{T, eqb, leb, ltb, leb→le, le→leb, ltb→lt, lt→ltb, eqb→eq}
 use lib.IntN.{pos}
 use lib.ListN.{length}
 use Rattle.laws.specs.Lists.{some as any}
-use Rattle.laws.proofs.Tests.{T-true, T-false}
+use Rattle.laws.proofs.Tests.{T-false, cond-true, cond-false}
 use Rattle.trees.specs.Rows.{Entry}
 use Rattle.trees.specs.Result.{Result, countField, markField}
 use Rattle.trees.specs.Rescored.{timesCounts, sumCounts, isLive, isMarked, isMany}
@@ -57,13 +57,14 @@ second = mapE (λ (x : Res). x .1)
 
 pub count-small : (limit n : ℕ) → n ≤ limit → (countField limit n ≡ n) × (markField limit n ≡ 0)
 count-small limit n h =
-    let e = T-true (leb n limit) (le→leb n limit h) in
-    (ap (λ (b : Bool). cond b n limit) e, ap (λ (b : Bool). cond b 0 1) e)
+    let t = le→leb n limit h in
+    (cond-true (leb n limit) _ _ t, cond-true (leb n limit) _ _ t)
 
 pub count-large : (limit n : ℕ) → limit < n → (countField limit n ≡ limit) × (markField limit n ≡ 1)
-count-large limit n h =
-    let e = T-false (leb n limit) (λ t. omega (arith, leb→le n limit t)) in
-    (ap (λ (b : Bool). cond b n limit) e, ap (λ (b : Bool). cond b 0 1) e)
+count-large limit n h = (cond-false (leb n limit) _ _ over, cond-false (leb n limit) _ _ over)
+  where
+    over : T (leb n limit) → ⊥
+    over t = omega (arith, leb→le n limit t)
 
 pub past : (limit n : ℕ) → (n ≤ limit) ⊎ (limit < n)
 past limit n = go (decLe n limit)
@@ -222,13 +223,13 @@ module _ (limit : ℕ) (pos-limit : 1 ≤ limit) where
 
     by-limit : (trueSum τs ≤ limit) ⊎ (limit < trueSum τs) → Fields (ltb limit (trueSum τs)) (trueSum τs)
     by-limit (inl h) =
-        let e = T-false (ltb limit (trueSum τs)) (λ t. omega (arith, ltb→lt limit (trueSum τs) t)) in
+        let over : T (ltb limit (trueSum τs)) → ⊥ = λ t. omega (arith, ltb→lt limit (trueSum τs) t) in
         let q = count-small limit (trueSum τs) h in
-        (ap (λ (b : Bool). cond b limit (trueSum τs)) e ∙ sym (q .0), ap (λ (b : Bool). cond b 1 0) e ∙ sym (q .1))
+        (cond-false (ltb limit (trueSum τs)) _ _ over ∙ sym (q .0), cond-false (ltb limit (trueSum τs)) _ _ over ∙ sym (q .1))
     by-limit (inr h) =
-        let e = T-true (ltb limit (trueSum τs)) (lt→ltb limit (trueSum τs) h) in
+        let t = lt→ltb limit (trueSum τs) h in
         let q = count-large limit (trueSum τs) h in
-        (ap (λ (b : Bool). cond b limit (trueSum τs)) e ∙ sym (q .0), ap (λ (b : Bool). cond b 1 0) e ∙ sym (q .1))
+        (cond-true (ltb limit (trueSum τs)) _ _ t ∙ sym (q .0), cond-true (ltb limit (trueSum τs)) _ _ t ∙ sym (q .1))
 
     pub many-is : Fields (isMany limit (map fieldsT τs)) (sumCounts (map fieldsT τs))
     many-is = go (sums τs)

@@ -13,7 +13,7 @@
 -- Assumes nothing.
 use mathlib.Core.Path.{_≡_, refl, sym, ap, _∙_, subst}
 use mathlib.Core.Logic.{_⊎_, inl, inr, _≢_}
-use mathlib.Core.Bool.{Bool, not, cond, _&&_, _||_}
+use mathlib.Core.Bool.{Bool, not, _&&_, _||_}
 use mathlib.Core.Option.{some, Option·none-ne-some, Option·some-injective}
 use mathlib.Core.List.{List, [], _∷_}
 use mathlib.Core.List.{List·Memᴰ as Mem, List·Memᴰ·head as here, List·Memᴰ·tail as there, List·Memᴰ·not-nil as mem-nil}
@@ -23,7 +23,7 @@ use lib.Signed.{ltZ}
 use Rattle.laws.specs.Lists.{sublists}
 use Rattle.laws.proofs.Falling.{Falling, falling-once, sublist-trans}
 use Rattle.laws.proofs.Sublists.{sublists-map-keep}
-use Rattle.laws.proofs.Tests.{T-dec, T-true, T-false}
+use Rattle.laws.proofs.Tests.{T-dec, cond-true, cond-false}
 use Rattle.trees.specs.Rows.{Row, isScored, clustersOf, scoredIn}
 use Rattle.trees.specs.Heaviest.{weightOf, comesFirst, firstOf, firstHeaviest}
 use Rattle.trees.specs.Rescored.{Key, keyFirst}
@@ -97,7 +97,7 @@ module _ (rs : List Row) (falling : Falling (clustersOf rs)) (nonzero : (c : ℕ
   first-old : (xs : List ℕ) (xss : List (List ℕ)) (q : First xss) → T (comesFirst rs (q .set) xs) → First (xs ∷ xss)
   first-old xs xss q h = record {
     set = q .set;
-    found = ap (firstOf rs xs) (q .found) ∙ ap (λ (b : Bool). some (cond b (q .set) xs)) (T-true (comesFirst rs (q .set) xs) h);
+    found = ap (firstOf rs xs) (q .found) ∙ ap some (cond-true (comesFirst rs (q .set) xs) (q .set) xs h);
     mem = there (q .mem);
     before = before;
   }
@@ -110,7 +110,7 @@ module _ (rs : List Row) (falling : Falling (clustersOf rs)) (nonzero : (c : ℕ
       → First (xs ∷ xss)
   first-new xs xss s q n = record {
     set = xs;
-    found = ap (firstOf rs xs) (q .found) ∙ ap (λ (b : Bool). some (cond b (q .set) xs)) (T-false (comesFirst rs (q .set) xs) n);
+    found = ap (firstOf rs xs) (q .found) ∙ ap some (cond-false (comesFirst rs (q .set) xs) (q .set) xs n);
     mem = here refl;
     before = before;
   }

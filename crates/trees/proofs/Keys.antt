@@ -18,7 +18,7 @@ use native.Mathlib.Omega.{arith}
 use lib.Dec.{T}
 use lib.IntN.{ℤ, pos, _+ℤ_, +ℤ-idr, +ℤ-comm}
 use lib.Signed.{ltZ}
-use Rattle.laws.proofs.Tests.{T-true, T-false}
+use Rattle.laws.proofs.Tests.{cond-true, cond-false}
 use Rattle.laws.proofs.Integers.{ltZ-add}
 use Rattle.trees.specs.Rescored.{Key, keyFirst}
 use Rattle.trees.proofs.Kind.{Kind, Lawful}
@@ -30,10 +30,10 @@ abbrev pub top : Key → Key → Key
 top x y = cond (keyFirst x y) x y
 
 top-l : (x y : Key) → T (keyFirst x y) → top x y ≡ x
-top-l x y h = ap (λ (b : Bool). cond b x y) (T-true (keyFirst x y) h)
+top-l x y h = cond-true (keyFirst x y) x y h
 
 top-r : (x y : Key) → T (keyFirst y x) → top x y ≡ y
-top-r x y h = ap (λ (b : Bool). cond b x y) (T-false (keyFirst x y) (λ t. key-irrefl x (key-trans x y x t h)))
+top-r x y h = cond-false (keyFirst x y) x y (λ t. key-irrefl x (key-trans x y x t h))
 
 pub top-cases : (x y : Key) → (top x y ≡ x) ⊎ (top x y ≡ y)
 top-cases x y = go (keyFirst x y)

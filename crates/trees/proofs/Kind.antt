@@ -20,7 +20,7 @@ use Rattle.laws.specs.Lists.{keep, sublists}
 use Rattle.laws.proofs.Appended.{map-through}
 use Rattle.laws.proofs.Keep.{keep-ext, keep-map}
 use Rattle.laws.proofs.Sublists.{sublists-map}
-use Rattle.trees.specs.Rows.{Row, isScored, Entry, cl, sc}
+use Rattle.trees.specs.Rows.{Row, isScored, Entry, cl}
 use Rattle.trees.specs.Tuple.{isTuple, tuples}
 use Rattle.trees.specs.Rescored.{summed}
 
@@ -76,6 +76,10 @@ module _ {A B : Type 0} (h : A → B) where
   pub cl-map : (τ : List (Entry A)) → map cl (map mapE τ) ≡ map cl τ
   cl-map = map-through mapE cl cl (λ e. refl)
 
+  -- a row may stand in a tuple whatever its result is
+  summed-map : (r : Row) (t : List (Entry A)) → summed r (map mapE t) ≡ map mapE (summed r t)
+  summed-map r t = simp keep-map
+
   pub tuples-map : (d C : ℕ) (es : List (Entry A)) → tuples d C (map mapE es) ≡ map (map mapE) (tuples d C es)
   tuples-map d C es =
       ap (keep (λ (τ : List (Entry B)). isTuple d C (map cl τ))) (sublists-map mapE es)
@@ -105,9 +109,6 @@ module _ {A B : Type 0} (ka : Kind A) (kb : Kind B) (h : A → B) where
     pub hom-value : (d : ℕ) (r : Row) (t : List (Entry A)) → value kb d r (map (mapE h) t) ≡ h (value ka d r t)
     hom-value d r t = go (isScored r) (single (r .cluster))
       where
-        C : ℕ
-        C = r .cluster
-
         τs : List (List (Entry A))
         τs = tuples d (r .cluster) (summed r t)
 
@@ -116,8 +117,8 @@ module _ {A B : Type 0} (ka : Kind A) (kb : Kind B) (h : A → B) where
         go true true = sym (hom .own r)
         go true false =
             ap₂ (kb .times) (sym (hom .own r))
-            (ap (λ (es : List (Entry B)). overTuples kb (tuples d C es)) (keep-map (mapE h) sc t)
-            ∙ ap (overTuples kb) (tuples-map h d C (keep sc t))
+            (ap (λ (es : List (Entry B)). overTuples kb (tuples d (r .cluster) es)) (summed-map h r t)
+            ∙ ap (overTuples kb) (tuples-map h d (r .cluster) (summed r t))
             ∙ hom-sum τs)
             ∙ sym (hom .times (ka .own r) (overTuples ka τs))
 

@@ -19,7 +19,7 @@ use lib.ListN.{length}
 use Rattle.laws.specs.Cluster.{inside, single}
 use Rattle.laws.specs.Limits.{Width}
 use Rattle.laws.specs.Lists.{keepIf, keep}
-use Rattle.laws.proofs.Tests.{T-dec, T-true, T-false}
+use Rattle.laws.proofs.Tests.{T-dec, T-true, T-false, cond-false}
 use Rattle.laws.proofs.Appended.{map-through}
 use Rattle.laws.proofs.Keep.{keep-swap}
 use Rattle.laws.proofs.Sublists.{sublists-drop}
@@ -68,7 +68,7 @@ module _ (c : ℕ) (z : ℤ) (s : ℕ) where
       go false = refl
 
   pub put-other : (r : Row) → (T (inside c (r .cluster)) → ⊥) → putScore c z s r ≡ r
-  put-other r n = ap (λ (b : Bool). cond b (record { cluster = r .cluster; weight = z; state = s }) r) (T-false (eqb (r .cluster) c) other)
+  put-other r n = cond-false (eqb (r .cluster) c) (record { cluster = r .cluster; weight = z; state = s }) r other
     where
       other : T (eqb (r .cluster) c) → ⊥
       other t = n (subst (λ (x : ℕ). T (inside c x)) (sym (eqb→eq (r .cluster) c t)) (inside-refl c))

@@ -134,15 +134,6 @@ largest-in-one cs S U c m f = le-antisymm (largest-within l c (λ x k. go x (in-
 -- ---- the tie rule
 
 module _ (cs : List ℕ) (falling : Falling cs) (nonzero : (c : ℕ) → Mem c cs → c ≢ 0) where
-  tie-agree : (S U : Fam) → ((x : ℕ) → Mem x cs → S x ≡ U x) → T (tieFirst (keep S cs) (keep U cs)) → ⊥
-  tie-agree S U g h = nonzero big (mem-of-keep S cs (elem→ big (keep S cs) h) .0) (omega (arith, low))
-    where
-      big : ℕ
-      big = largest (inOne (keep S cs) (keep U cs))
-
-      low : big ≤ 0
-      low = largest-within (inOne (keep S cs) (keep U cs)) 0 (λ x m. let q = in-one cs S U x m in absurd (q .1 (g x (q .0))))
-
   tie-first : (S U : Fam) → Ahead cs S U → T (tieFirst (keep S cs) (keep U cs))
   tie-first S U a =
       let m = side-one cs S U (a .top) (a .listed) (a .has) (a .lacks) in
@@ -155,6 +146,15 @@ module _ (cs : List ℕ) (falling : Falling cs) (nonzero : (c : ℕ) → Mem c c
       let k = Memᴰ·append-right (keep (λ (c : ℕ). not (elem c (keep U cs))) (keep S cs)) m in
       let e = largest-in-one cs S U (a .top) k (λ x j l. sym (a .above x j l)) in
       a .lacks (mem-of-keep S cs (elem→ (a .top) (keep S cs) (subst (λ (c : ℕ). T (elem c (keep S cs))) e h)) .1)
+
+  tie-agree : (S U : Fam) → ((x : ℕ) → Mem x cs → S x ≡ U x) → T (tieFirst (keep S cs) (keep U cs)) → ⊥
+  tie-agree S U g h = nonzero big (mem-of-keep S cs (elem→ big (keep S cs) h) .0) (omega (arith, low))
+    where
+      big : ℕ
+      big = largest (inOne (keep S cs) (keep U cs))
+
+      low : big ≤ 0
+      low = largest-within (inOne (keep S cs) (keep U cs)) 0 (λ x m. let q = in-one cs S U x m in absurd (q .1 (g x (q .0))))
 
   pub tie-is-marks : (S U : Fam) → tieFirst (keep S cs) (keep U cs) ≡ ltb (marksIn cs U) (marksIn cs S)
   tie-is-marks S U = go (parting cs falling S U)
