@@ -10,7 +10,7 @@
 --     has-lt             the taxa of a number below 2 ^ w are below w
 --     has-of-nonzero     a number that isn't 0 has a taxon
 -- Assumes nothing.
-use mathlib.Core.Path.{_≡_, refl, sym, ap, ap₂, _∙_}
+use mathlib.Core.Path.{_≡_, refl, sym, ap, ap₂, _∙_, subst}
 use mathlib.Core.Logic.{_⊎_, inl, inr, _≢_}
 use Prim.Native.Nat.{ℕ, zero, suc, _+_, _*_, _/_, _%_, _^_, _≤_, _<_}
 use native.Mathlib.Decide.{ℕ-discrete, decLe}
@@ -18,7 +18,7 @@ use native.Mathlib.Nat.{mod-lt, zero-div, div-one, div-self, div-add-mod', le-tr
 use native.Mathlib.Numerals.{one-add}
 use native.Mathlib.Omega.{arith}
 use lib.Arith.{bin-ind}
-use lib.Bits.{bitAnd, bitOr, bitXor, and-shr, and-mod, or-shr, or-mod, xor-shr, xor-mod}
+use lib.Bits.{bitAnd, bitOr, bitXor, and-shr, and-mod, or-shr, or-mod, or-comm, xor-shr, xor-mod}
 use lib.Dec.{lit<}
 use lib.Pow.{shr-shr, pow-pos, pow-mono}
 
@@ -124,11 +124,7 @@ has-or-l a b t x = record { one = or-digit a b t ∙ go (decHas b t) }
     go (inr e) = ap₂ bitOr (x .one) e
 
 pub has-or-r : (a b t : ℕ) → Has b t → Has (bitOr a b) t
-has-or-r a b t y = record { one = or-digit a b t ∙ go (decHas a t) }
-  where
-    go : Has a t ⊎ (digit a t ≡ 0) → bitOr (digit a t) (digit b t) ≡ 1
-    go (inl x) = ap₂ bitOr (x .one) (y .one)
-    go (inr e) = ap₂ bitOr e (y .one)
+has-or-r a b t y = subst (λ (n : ℕ). Has n t) (or-comm b a) (has-or-l b a t y)
 
 pub not-has-zero : (t : ℕ) → Has 0 t → ⊥
 not-has-zero t h = no-one 0 t h (digit-zero t)

@@ -169,12 +169,12 @@ module _ {A : Type 0} (k : Kind A) (law : Summing k) where
       → (e : Entry A) → T (leads (cl e) R) → gain k n R es e ≡ k .times (e .val) (downward n (R - cl e) es)
   gain-is n R es h ih e t = go (R - cl e) refl
     where
-      le : cl e ≤ R
-      le = le-of-inside (cl e) R (leads→ (cl e) R t .0)
+      up-to : cl e ≤ R
+      up-to = le-of-inside (cl e) R (leads→ (cl e) R t .0)
 
       go : (x : ℕ) → R - cl e ≡ x → gain k n R es e ≡ k .times (e .val) (downward n (R - cl e) es)
       go zero q =
-          gain-whole k n R es e (omega (arith, le))
+          gain-whole k n R es e (omega (arith, up-to))
           ∙ sym (rw q (ap (k .times (e .val)) (downward-stop n es h) ∙ law .times-unit (e .val)))
       go (suc x) q = gain-part k n R es e (omega arith) ∙ ap (k .times (e .val)) (ih (R - cl e) (omega arith))
 
