@@ -26,3 +26,5 @@ pub mod Laminar
 pub mod Descends
 -- lists one behind another, and a list backward
 pub mod Appended
+-- the lowest taxon of a cluster
+pub mod Lowest
