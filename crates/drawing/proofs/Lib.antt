@@ -5,3 +5,7 @@ pub mod Sorted
 pub mod Decimal
 -- a text tells its shape
 pub mod Print
+-- clusters that nest, with their single taxa: the children of a member
+pub mod Nests
+-- the children of a part in order, and how a writer meets them
+pub mod Parts

@@ -1,4 +1,6 @@
--- Read in this order: numbers in decimal, shapes and their text, the shape and text of a set of clusters.
+-- Read in this order: numbers in decimal, shapes and their text, the shape and text of a set of clusters; last, how a writer meets the
+-- children of a part.
 pub mod Decimal
 pub mod Shape
 pub mod Drawn
+pub mod Parts

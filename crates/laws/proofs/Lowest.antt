@@ -1,6 +1,7 @@
 -- The lowest taxon of a cluster.
 --     lowest-in        a cluster that isn't empty has it
 --     lowest-le        no taxon of the cluster is lower
+--     lowest-lt        it is a taxon of the width
 --     lowest-taxon     the lowest taxon of a one-taxon cluster
 --     lowest-mono      a part has no lower one
 --     lowest-apart     clusters that are apart have different ones
@@ -72,11 +73,12 @@ pub lowest-taxon : (w t : ℕ) → t < w → lowest w (2 ^ t) ≡ t
 lowest-taxon w t h =
     pow-has t (lowest w (2 ^ t)) (has-of-inside (lowest w (2 ^ t)) (2 ^ t) (lowest-in w (2 ^ t) (pow-lt h) (taxon-nonzero t)))
 
+pub lowest-lt : (w c : ℕ) → c < 2 ^ w → c ≢ 0 → lowest w c < w
+lowest-lt w c h n = has-lt w c (lowest w c) h (has-of-inside (lowest w c) c (lowest-in w c h n))
+
 module _ (w a b : ℕ) (ha : a < 2 ^ w) (na : a ≢ 0) where
   pub lowest-mono : T (inside a b) → lowest w b ≤ lowest w a
-  lowest-mono i =
-      let l = lowest-in w a ha na in
-      lowest-le w b (lowest w a) (has-lt w a (lowest w a) ha (has-of-inside (lowest w a) a l)) (inside-trans (2 ^ lowest w a) a b l i)
+  lowest-mono i = lowest-le w b (lowest w a) (lowest-lt w a ha na) (inside-trans (2 ^ lowest w a) a b (lowest-in w a ha na) i)
 
   pub lowest-apart : b < 2 ^ w → b ≢ 0 → T (apart a b) → lowest w a ≢ lowest w b
   lowest-apart hb nb h e =

@@ -1,0 +1,22 @@
+-- The children of a part as the writer of a text meets them, one after another. No public promise cites this: the writer's own contracts
+-- do, and `proofs/Parts.antt` proves that what it meets are the children in order.
+--     childWith xs C t        the largest member by number that lies strictly inside C and has taxon t
+--     partsFrom n xs C left   the children of C that make up the taxa left: the one with the smallest taxon left, and those of the rest
+-- Assumes nothing.
+use mathlib.Core.Bool.{cond, _&&_}
+use mathlib.Core.List.{List, [], _∷_}
+use Prim.Native.Nat.{ℕ, zero, suc, _-_, _^_}
+use lib.Dec.{eqb}
+use Rattle.laws.specs.Cluster.{inside, strict}
+use Rattle.laws.specs.Lists.{keep}
+use Rattle.trees.specs.Heaviest.{largest}
+use Rattle.drawing.specs.Shape.{smallest}
+
+abbrev pub childWith : List ℕ → ℕ → ℕ → ℕ
+childWith xs C t = largest (keep (λ (k : ℕ). strict k C && inside (2 ^ t) k) xs)
+
+abbrev pub partsFrom : ℕ → List ℕ → ℕ → ℕ → List ℕ
+partsFrom zero xs C left = []
+partsFrom (suc n) xs C left =
+    let c = childWith xs C (smallest left) in
+    cond (eqb left 0) [] (c ∷ partsFrom n xs C (left - c))
