@@ -9,3 +9,5 @@ pub mod Print
 pub mod Nests
 -- the children of a part in order, and how a writer meets them
 pub mod Parts
+-- the shape of a member has the members inside it for clusters
+pub mod Drawn
