@@ -13,7 +13,8 @@ use native.Mathlib.Nat.{le-refl}
 use native.Mathlib.Omega.{arith}
 use lib.Dec.{T, leb, ltb, ltb→lt, lt→ltb, le→leb}
 use Rattle.laws.specs.Lists.{every}
-use Rattle.laws.proofs.Tests.{T-and, and-T, T-true, T-false}
+use Rattle.laws.proofs.Tests.{and-T, T-true, T-false}
+use Rattle.laws.proofs.Split.{every-append}
 use Rattle.drawing.specs.Decimal.{figure, figures, decimal}
 
 -- ---- the two cases
@@ -50,12 +51,6 @@ pub decimal-inj : (m n : ℕ) → decimal m ≡ decimal n → m ≡ n
 decimal-inj m n e = sym (figures-back m m) ∙ ap (valueOn 0) e ∙ figures-back n n
 
 -- ---- the bytes
-
-every-append : (p : ℕ → Bool) (s t : List ℕ) → T (every p s) → T (every p t) → T (every p (s ++ t))
-every-append p [] t h k = k
-every-append p (x ∷ s) t h k =
-    let q = T-and (p x) (every p s) h in
-    and-T (p x) (every p (s ++ t)) (q .0) (every-append p s t (q .1) k)
 
 abbrev pub isFigure : ℕ → Bool
 isFigure b = leb 48 b && leb b 57

@@ -11,3 +11,7 @@ pub mod Nests
 pub mod Parts
 -- the shape of a member has the members inside it for clusters
 pub mod Drawn
+-- the clusters of a shape, whatever the shape
+pub mod Shape
+-- an ordered shape is decided by its clusters
+pub mod Only

@@ -1,7 +1,7 @@
 -- Lists that rise by a key, and sorting.
 --     Rising key l              each element's key is less than the keys of all that follow
 --     rising-once, rising-only  such a list has no element twice, and its elements decide it
---     rising-map                as a test of the keys
+--     rising-map, map-rising    as a test of the keys, into it and out of it
 --     mem-sort, mem-of-sort     a sorted list has the same elements
 --     sort-rising               it rises where different elements have different keys
 --     length-sort               it is as long as the list
@@ -10,15 +10,15 @@
 use mathlib.Core.Path.{_≡_, refl, sym, ap, _∙_, subst}
 use mathlib.Core.Logic.{_⊎_, inl, inr, _≢_}
 use mathlib.Core.Bool.{Bool, true, false, not, cond, _&&_}
-use mathlib.Core.List.{List, [], _∷_, _++_, map, reverse, reverse-cons, Memᴰ·cast, Memᴰ·of-map, List·Memᴰ·append-cases, List·Memᴰ·eq-of-singleton}
+use mathlib.Core.List.{List, [], _∷_, _++_, map, reverse, reverse-cons, Memᴰ·cast, Memᴰ·map, Memᴰ·of-map, List·Memᴰ·append-cases, List·Memᴰ·eq-of-singleton}
 use mathlib.Core.List.{List·Memᴰ as Mem, List·Memᴰ·head as here, List·Memᴰ·tail as there, List·Memᴰ·not-nil as mem-nil}
 use Prim.Native.Nat.{ℕ, suc, _≤_, _<_}
 use native.Mathlib.Omega.{arith}
 use lib.Dec.{T, ltb, ltb→lt, lt→ltb, nltb→le}
 use lib.ListN.{length}
 use Rattle.laws.specs.Lists.{every, Once}
-use Rattle.laws.proofs.Tests.{and-T}
-use Rattle.laws.proofs.Keep.{→every}
+use Rattle.laws.proofs.Tests.{T-and, and-T}
+use Rattle.laws.proofs.Keep.{every→, →every}
 use Rattle.laws.proofs.Falling.{Falling, falling-once}
 use Rattle.laws.proofs.Appended.{mem-reverse, mem-of-reverse}
 use Rattle.drawing.specs.Shape.{ascends}
@@ -40,6 +40,12 @@ module _ (key : ℕ → ℕ) where
     where
       above : (n : ℕ) → Mem n (map key cs) → T (ltb (key c) n)
       above n m = let q = Memᴰ·of-map key cs m in lt→ltb (key c) n (omega (arith, r .0 (q .0) (q .1), q .2))
+
+  pub map-rising : (l : List ℕ) → T (ascends (map key l)) → Rising key l
+  map-rising [] h = tt
+  map-rising (c ∷ cs) h =
+      let q = T-and (every (ltb (key c)) (map key cs)) (ascends (map key cs)) h in
+      ((λ x m. ltb→lt (key c) (key x) (every→ (ltb (key c)) (map key cs) (q .0) (key x) (Memᴰ·map key m))), map-rising cs (q .1))
 
   -- ---- the elements decide the list
   rising-head : (x y : ℕ) (xs ys : List ℕ) → Rising key (x ∷ xs) → Rising key (y ∷ ys) → Mem x (y ∷ ys) → Mem y (x ∷ xs) → x ≡ y

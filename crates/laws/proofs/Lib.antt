@@ -28,3 +28,5 @@ pub mod Descends
 pub mod Appended
 -- the lowest taxon of a cluster
 pub mod Lowest
+-- lists one behind another, taken apart
+pub mod Split
