@@ -15,3 +15,9 @@ pub mod Drawn
 pub mod Shape
 -- an ordered shape is decided by its clusters
 pub mod Only
+-- how long a text can be
+pub mod TextLength
+-- the theorems about trees
+pub mod Theorems
+-- the texts of the paper's own examples
+pub mod Cases

@@ -1,7 +1,6 @@
 -- An ordered shape is decided by its clusters, each of which it has once.
 --     Same l r          two lists have the same elements
 --     ordered-only      ordered shapes with the same clusters, none twice, are equal
---     shape-only        the shapes that draw the same members are equal
 -- Assumes nothing.
 use mathlib.Core.Path.{_≡_, refl, sym, ap, ap₂, _∙_, subst}
 use mathlib.Core.Logic.{_⊎_, inl, inr, ⊎-elim, _≢_}
@@ -26,7 +25,6 @@ use Rattle.drawing.specs.Shape.{smallest, isOrdered, areOrdered}
 use Rattle.drawing.proofs.Sorted.{rising-only, map-rising}
 use Rattle.drawing.proofs.Shape.{top-cluster, tops-clusters, cluster-inside, clusters-inside, first-top, Ordered, ordered→}
 use Rattle.drawing.proofs.Shape.{tops-nonzero, cluster-nonzero, clusters-nonzero, isApart, areApart, apart-of-once}
-use Rattle.drawing.proofs.Drawn.{Draws}
 
 pub record Same (l r : List ℕ) : Type 0 where
   pub to : (c : ℕ) → Mem c l → Mem c r
@@ -180,10 +178,3 @@ mutual
 pub ordered-only : (s s′ : Shape) → T (isOrdered s) → T (isOrdered s′) → Once (clustersOf s) → Once (clustersOf s′)
     → Same (clustersOf s) (clustersOf s′) → s ≡ s′
 ordered-only s s′ o o′ p p′ h = only s s′ o o′ (apart-of-once s p) (apart-of-once s′ p′) h
-
-pub shape-only : (xs : List ℕ) (C : ℕ) (s s′ : Shape) → Draws xs C s → Draws xs C s′ → s ≡ s′
-shape-only xs C s s′ d d′ =
-    ordered-only s s′ (d .ordered) (d′ .ordered) (d .once) (d′ .once) (record {
-      to = λ c m. let q = d .sound c m in d′ .complete c (q .0) (q .1);
-      from = λ c m. let q = d′ .sound c m in d .complete c (q .0) (q .1);
-    })
