@@ -1,5 +1,6 @@
 -- The texts that document 01 prints ("Bench examples"), each from the members of its tree: one computed table. It pins the bytes, which no
 -- law speaks of.
+--     bytesOf s        the bytes of a text in plain characters
 --     Case             a tree's members and top, and its text
 --     cases            P1, P3, P5, P6, P8, and taxa of two figures
 --     cases-hold       each text is that of its tree
@@ -14,8 +15,7 @@ use Rattle.laws.specs.Cluster.{inside, single}
 use Rattle.drawing.specs.Decimal.{figures}
 use Rattle.drawing.specs.Drawn.{shapeOf, textOf}
 
--- the bytes of a text in plain characters
-abbrev bytesOf : String → List ℕ
+abbrev pub bytesOf : String → List ℕ
 bytesOf end = []
 bytesOf (then c s) = code c ∷ bytesOf s
 

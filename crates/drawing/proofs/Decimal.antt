@@ -66,7 +66,9 @@ figures-are zero n h = rw (figures-low 0 n (omega arith)) (one-figure n (omega a
 figures-are (suc k) n h = go (decLe 10 n) (λ l. figures-are k (n / 10) (omega arith))
   where
     go : Dec (10 ≤ n) → (10 ≤ n → T (every isFigure (figures k (n / 10)))) → T (every isFigure (figures (suc k) n))
-    go (yes l) ih = rw (figures-high k n l) (every-append isFigure (figures k (n / 10)) (figure (n % 10) ∷ []) (ih l) (one-figure (n % 10) (omega arith)))
+    go (yes l) ih =
+        rw (figures-high k n l)
+        (every-append isFigure (figures k (n / 10)) (figure (n % 10) ∷ []) (ih l) (one-figure (n % 10) (omega arith)))
     go (no l) ih = rw (figures-low (suc k) n (omega arith)) (one-figure n (omega arith))
 
 pub decimal-figures : (n : ℕ) → T (every isFigure (decimal n))

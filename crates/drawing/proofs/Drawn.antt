@@ -3,8 +3,8 @@
 --     shape-draws         the shape of a member draws it
 -- Assumes nothing.
 use mathlib.Core.Path.{_≡_, refl, sym, ap, ap₂, _∙_, subst}
-use mathlib.Core.Logic.{_⊎_, inl, inr, _≢_}
-use mathlib.Core.Bool.{Bool, true, false, cond, _&&_}
+use mathlib.Core.Logic.{_⊎_, inl, inr}
+use mathlib.Core.Bool.{_&&_}
 use mathlib.Core.List.{List, [], _∷_, _++_, map, Memᴰ·cast, List·Memᴰ·eq-of-singleton}
 use mathlib.Core.List.{List·Memᴰ as Mem, List·Memᴰ·head as here, List·Memᴰ·tail as there, List·Memᴰ·not-nil as mem-nil}
 use Prim.Native.Nat.{ℕ, zero, suc, _^_, _≤_, _<_}
@@ -50,6 +50,9 @@ module _ (f : ℕ → Shape) where
   ordered-by (c ∷ cs) g = and-T (isOrdered (f c)) (areOrdered (shapesBy f cs)) (g c (here refl)) (ordered-by cs (λ x m. g x (there m)))
 
 module _ (xs : List ℕ) (N : Nests xs) (C : ℕ) (m : Mem C xs) where
+  is-top : (c : ℕ) → c ≡ C → Mem c xs × T (inside c C)
+  is-top c e = (Memᴰ·cast e m, subst (λ (x : ℕ). T (inside c x)) e (inside-refl c))
+
   -- ---- one taxon
   module _ (one : T (single C)) where
     only : (c : ℕ) → Mem c xs → T (inside c C) → c ≡ C
@@ -67,7 +70,7 @@ module _ (xs : List ℕ) (N : Nests xs) (C : ℕ) (m : Mem C xs) where
     draws-taxon = record {
       top = taxon-top;
       ordered = tt;
-      sound = λ c k. let e = List·Memᴰ·eq-of-singleton k ∙ taxon-top in (Memᴰ·cast e m, subst (λ (x : ℕ). T (inside c x)) e (inside-refl c));
+      sound = λ c k. is-top c (List·Memᴰ·eq-of-singleton k ∙ taxon-top);
       complete = λ c k i. here (only c k i ∙ sym taxon-top);
       once = (mem-nil, tt);
     }
@@ -132,7 +135,7 @@ module _ (xs : List ℕ) (N : Nests xs) (C : ℕ) (m : Mem C xs) where
         (and-T (leb 2 (length l)) (ascends (map smallest l)) two rise) each
 
     all→ : (c : ℕ) → Mem c (C ∷ beneath) → Mem c xs × T (inside c C)
-    all→ c (here e) = (Memᴰ·cast e m, subst (λ (x : ℕ). T (inside c x)) e (inside-refl c))
+    all→ c (here e) = is-top c e
     all→ c (there j) =
         let q = beneath→ c j in
         (q .2, inside-trans c (q .0) C (q .3) (strict→ (q .0) C (q .1 .strictly) .0))

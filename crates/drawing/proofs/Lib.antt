@@ -15,6 +15,8 @@ pub mod Drawn
 pub mod Shape
 -- an ordered shape is decided by its clusters
 pub mod Only
+-- the bytes of a part, from those of its children
+pub mod PartBytes
 -- how long a text can be
 pub mod TextLength
 -- the theorems about trees

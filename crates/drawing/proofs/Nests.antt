@@ -7,14 +7,13 @@
 --     children-union        the children make up C, and are two at least
 --     size-lt               a cluster strictly inside another has fewer taxa
 -- Assumes nothing.
-use mathlib.Core.Path.{_≡_, refl, sym, ap, _∙_, subst}
-use mathlib.Core.Logic.{_⊎_, inl, inr, _≢_}
+use mathlib.Core.Path.{_≡_, sym, subst}
+use mathlib.Core.Logic.{_≢_}
 use mathlib.Core.Bool.{Bool, not, _&&_}
 use mathlib.Core.List.{List, [], _∷_, Memᴰ·cast}
 use mathlib.Core.List.{List·Memᴰ as Mem, List·Memᴰ·head as here, List·Memᴰ·tail as there, List·Memᴰ·not-nil as mem-nil}
 use Prim.Native.Nat.{ℕ, _-_, _^_, _≤_, _<_, max}
 use native.Mathlib.Decide.{ℕ-discrete, decLe}
-use native.Mathlib.Nat.{le-refl}
 use native.Mathlib.Omega.{arith}
 use lib.Dec.{T, T-not, not-T}
 use lib.ListN.{length}
@@ -120,7 +119,8 @@ module _ (xs : List ℕ) (N : Nests xs) (C : ℕ) where
         none : (l : ℕ) → Mem l xs → T (strict l C) → T (strict k l) → ⊥
         none l j h b =
             let q = strict→ k l b in
-            let le = largest-le (keep holds xs) l (mem-keep holds xs j (and-T (strict l C) (inside (2 ^ t) l) h (inside-trans (2 ^ t) k l (found .2) (q .0)))) in
+            let i = inside-trans (2 ^ t) k l (found .2) (q .0) in
+            let le = largest-le (keep holds xs) l (mem-keep holds xs j (and-T (strict l C) (inside (2 ^ t) l) h i)) in
             q .1 (omega (arith, le-of-inside k l (q .0)))
 
   -- ---- members and children
@@ -166,8 +166,9 @@ module _ (xs : List ℕ) (N : Nests xs) (C : ℕ) where
         where
           taxon-in : (t : ℕ) → t < 64 → T (inside (2 ^ t) C) → T (inside (2 ^ t) (unionOf cs))
           taxon-in t h i =
+              let k = childWith xs C t in
               let q = childWith-child t (2 ^ t) (N .leaves C t m i) (taxon-strict t i) (inside-refl (2 ^ t)) in
-              inside-trans (2 ^ t) (childWith xs C t) (unionOf cs) (q .1) (inside-unionOf cs (childWith xs C t) (g (childWith xs C t) (q .0)))
+              inside-trans (2 ^ t) k (unionOf cs) (q .1) (inside-unionOf cs k (g k (q .0)))
 
       pub children-two : 2 ≤ length cs
       children-two = two-parts cs C children-union (N .nonzero C m) (λ c k. strict→ c C (f c k .strictly) .1)

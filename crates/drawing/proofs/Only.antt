@@ -4,11 +4,10 @@
 -- Assumes nothing.
 use mathlib.Core.Path.{_≡_, refl, sym, ap, ap₂, _∙_, subst}
 use mathlib.Core.Logic.{_⊎_, inl, inr, ⊎-elim, _≢_}
-use mathlib.Core.Bool.{Bool, _&&_}
-use mathlib.Core.List.{List, [], _∷_, _++_, head-eq-of-cons-eq, tail-eq-of-cons-eq, Memᴰ·cast}
+use mathlib.Core.List.{List, _∷_, head-eq-of-cons-eq, tail-eq-of-cons-eq, Memᴰ·cast}
 use mathlib.Core.List.{Memᴰ·append-left, Memᴰ·append-right, List·Memᴰ·append-cases, List·Memᴰ·eq-of-singleton}
 use mathlib.Core.List.{List·Memᴰ as Mem, List·Memᴰ·head as here, List·Memᴰ·tail as there}
-use Prim.Native.Nat.{ℕ, suc, _^_, _≤_}
+use Prim.Native.Nat.{ℕ, suc, _^_}
 use native.Mathlib.Omega.{arith}
 use lib.Dec.{T}
 use lib.ListN.{length}
@@ -18,7 +17,7 @@ use Rattle.laws.proofs.Tests.{T-and}
 use Rattle.laws.proofs.Keep.{every→}
 use Rattle.laws.proofs.Digits.{Has, has-pow, pow-has}
 use Rattle.laws.proofs.Cluster.{inside-refl, inside-trans, inside-antisym, apart-of-inside, zero-of-apart, inside-unionOf}
-use Rattle.trees.specs.Tuple.{allApart, isTuple}
+use Rattle.trees.specs.Tuple.{allApart}
 use Rattle.trees.proofs.Tuples.{→tuple, part-other, apart-of-tuple, apart-rest}
 use Rattle.drawing.specs.Shape.{Shape, taxon, vertex, Shapes, none, more, topOf, topsOf, clustersOf, clustersIn}
 use Rattle.drawing.specs.Shape.{smallest, isOrdered, areOrdered}
@@ -50,9 +49,9 @@ good→ ss h a = let q = T-and (allApart (topsOf ss)) (areApart ss) a in record 
 -- the top is another cluster than the children's
 top-other : (ss : Shapes) → Good ss → (k : ℕ) → Mem k (topsOf ss) → k ≢ unionOf (topsOf ss)
 top-other ss g k m =
-    part-other (suc (length (topsOf ss))) (unionOf (topsOf ss)) (topsOf ss) (tops-nonzero ss (g .ordered .each))
-    (→tuple (suc (length (topsOf ss))) (unionOf (topsOf ss)) (topsOf ss) (record { two = g .ordered .two; few = omega arith; union = refl; apart = g .apart }))
-    k m
+    let l = topsOf ss in
+    let h = →tuple (suc (length l)) (unionOf l) l (record { two = g .ordered .two; few = omega arith; union = refl; apart = g .apart }) in
+    part-other (suc (length l)) (unionOf l) l (tops-nonzero ss (g .ordered .each)) h k m
 
 top-beneath : (ss : Shapes) → Good ss → Mem (unionOf (topsOf ss)) (clustersIn ss) → ⊥
 top-beneath ss g m =
@@ -92,7 +91,8 @@ tops-part ss ss′ g h k m = go (apart-of-tuple (topsOf ss) (g .apart) k (r .0) 
 tops-same : (ss ss′ : Shapes) → Good ss → Good ss′ → Same (clustersIn ss) (clustersIn ss′) → topsOf ss ≡ topsOf ss′
 tops-same ss ss′ g g′ h =
     rising-only smallest (topsOf ss) (topsOf ss′) (map-rising smallest (topsOf ss) (g .ordered .rises))
-    (map-rising smallest (topsOf ss′) (g′ .ordered .rises)) (tops-part ss ss′ g h) (tops-part ss′ ss g′ (flip (clustersIn ss) (clustersIn ss′) h))
+    (map-rising smallest (topsOf ss′) (g′ .ordered .rises)) (tops-part ss ss′ g h)
+    (tops-part ss′ ss g′ (flip (clustersIn ss) (clustersIn ss′) h))
 
 -- ---- a first child and the others
 

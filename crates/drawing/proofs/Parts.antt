@@ -7,9 +7,9 @@
 --     partsIn left, parts-none, parts-more, parts-all     the children in what is left: none, one and the others, all
 --     parts-is, parts-are-children  the rule that the writer goes by gives them
 -- Assumes nothing.
-use mathlib.Core.Path.{_≡_, refl, sym, ap, _∙_, subst}
+use mathlib.Core.Path.{_≡_, sym, ap, _∙_, subst}
 use mathlib.Core.Logic.{_⊎_, inl, inr, _≢_}
-use mathlib.Core.Bool.{Bool, true, false, cond}
+use mathlib.Core.Bool.{Bool, true, false}
 use mathlib.Core.List.{List, [], _∷_, Memᴰ·cast}
 use mathlib.Core.List.{List·Memᴰ as Mem, List·Memᴰ·head as here, List·Memᴰ·tail as there}
 use Prim.Native.Nat.{ℕ, zero, suc, _-_, _^_, _≤_, _<_}
@@ -18,13 +18,13 @@ use native.Mathlib.Nat.{le-refl}
 use native.Mathlib.Omega.{arith}
 use lib.Dec.{T, eqb, eqb→eq}
 use lib.ListN.{length}
-use Rattle.laws.specs.Cluster.{inside, strict, apart, single, size, unionOf}
+use Rattle.laws.specs.Cluster.{inside, apart, single, size, unionOf}
 use Rattle.laws.specs.Lists.{keepIf, keep, Once}
-use Rattle.laws.proofs.Tests.{T-true, T-false, T-dec, eq→eqb}
+use Rattle.laws.proofs.Tests.{T-true, T-false, eq→eqb}
 use Rattle.laws.proofs.Keep.{mem-keep, mem-of-keep, keep-none-mem, keep-all}
 use Rattle.laws.proofs.Once.{once-keep}
 use Rattle.laws.proofs.Digits.{Has, or-has}
-use Rattle.laws.proofs.Cluster.{inside→, →inside, inside-refl, inside-trans, le-of-inside, zero-of-inside, has-of-inside, apart→, apart-sym}
+use Rattle.laws.proofs.Cluster.{inside→, →inside, inside-refl, inside-trans, le-of-inside, zero-of-inside, has-of-inside, apart→}
 use Rattle.laws.proofs.Cluster.{apart-of-inside, strict→, rest-apart, rest-inside, union-rest}
 use Rattle.laws.proofs.Taxa.{size-pos, size-part}
 use Rattle.laws.proofs.Lowest.{lowest-in, lowest-le, lowest-lt, lowest-mono, lowest-apart}
@@ -35,7 +35,8 @@ use Rattle.drawing.specs.Shape.{smallest}
 use Rattle.drawing.specs.Drawn.{childrenInOrder}
 use Rattle.drawing.specs.Parts.{childWith, partsFrom}
 use Rattle.drawing.proofs.Sorted.{Rising, rising-once, rising-only, mem-sort, mem-of-sort, sort-rising}
-use Rattle.drawing.proofs.Nests.{Nests, Child, child→, →child, childWith-child, children-apart, taxon-strict, children-union, children-two}
+use Rattle.drawing.proofs.Nests.{Nests, Child, child→, →child, childWith-child, children-apart}
+use Rattle.drawing.proofs.Nests.{taxon-strict, children-union, children-two}
 
 rising-keep : (key : ℕ → ℕ) (p : ℕ → Bool) (l : List ℕ) → Rising key l → Rising key (keep p l)
 rising-keep key p [] r = tt
@@ -137,15 +138,20 @@ module _ (xs : List ℕ) (N : Nests xs) (C : ℕ) where
           go : T (inside next left) ⊎ T (apart next left) → T (inside next left)
           go (inl i) = i
           go (inr a) =
-              absurd (apart→ next left a (smallest left) (has-of-inside (smallest left) next (found .1)) (has-of-inside (smallest left) left low))
+              let t = smallest left in
+              absurd (apart→ next left a t (has-of-inside t next (found .1)) (has-of-inside t left low))
 
       pub next-left : Left (left - next)
-      next-left = record { within = inside-trans (left - next) left C inner (l .within); whole = λ c k. go c k (ℕ-discrete c next) (l .whole c k) }
+      next-left = record {
+        within = inside-trans (left - next) left C inner (l .within);
+        whole = λ c k. go c k (ℕ-discrete c next) (l .whole c k);
+      }
         where
           inner : T (inside (left - next) left)
           inner = rest-inside next left next-inside
 
-          go : (c : ℕ) → Child xs C c → Dec (c ≡ next) → T (inside c left) ⊎ T (apart c left) → T (inside c (left - next)) ⊎ T (apart c (left - next))
+          go : (c : ℕ) → Child xs C c → Dec (c ≡ next) → T (inside c left) ⊎ T (apart c left)
+              → T (inside c (left - next)) ⊎ T (apart c (left - next))
           go c k (yes e) h = inr (subst (λ (x : ℕ). T (apart x (left - next))) (sym e) (rest-apart next left next-inside))
           go c k (no d) (inl i) = inl (inside-less c next left i next-inside (children-apart xs N C c next k next-child d))
           go c k (no d) (inr a) = inr (apart-of-inside c left c (left - next) a (inside-refl c) inner)

@@ -4,8 +4,6 @@
 --     print-inj          equal texts, equal shapes
 -- Assumes nothing.
 use mathlib.Core.Path.{_≡_, refl, sym, ap, ap₂, _∙_, subst}
-use mathlib.Core.Logic.{_≢_}
-use mathlib.Core.Bool.{_&&_}
 use mathlib.Core.List.{List, [], _∷_, _++_, append-assoc, head-eq-of-cons-eq, tail-eq-of-cons-eq}
 use Prim.Native.Nat.{ℕ, _≤_, _<_}
 use native.Mathlib.Omega.{arith}
@@ -13,8 +11,8 @@ use lib.Dec.{T, leb, leb→le, lit<}
 use Rattle.laws.specs.Lists.{every}
 use Rattle.laws.proofs.Tests.{T-and}
 use Rattle.drawing.specs.Decimal.{decimal}
-use Rattle.drawing.specs.Shape.{Shape, taxon, vertex, Shapes, none, more, opening, closing, comma, semicolon}
-use Rattle.drawing.specs.Shape.{afterCommas, withCommas, print, printEach, textBytes}
+use Rattle.drawing.specs.Shape.{Shape, taxon, vertex, Shapes, none, more}
+use Rattle.drawing.specs.Text.{opening, closing, comma, semicolon, afterCommas, withCommas, print, printEach, textBytes}
 use Rattle.drawing.proofs.Decimal.{isFigure, decimal-figures, decimal-some, decimal-inj}
 
 -- ---- figures, and what follows them
@@ -50,6 +48,11 @@ print-first (vertex ss) u v e = let z : opening ≡ closing = head-eq-of-cons-eq
 
 -- ---- children
 
+children-first : (s : Shape) (ss : Shapes) (u v : List ℕ) → withCommas (printEach (more s ss)) ++ (closing ∷ v) ≡ closing ∷ u → ⊥
+children-first s ss u v e =
+    let l = afterCommas (printEach ss) in
+    print-first s (l ++ (closing ∷ v)) u (sym (append-assoc (print s) l (closing ∷ v)) ∙ e)
+
 stops-after : (ss : Shapes) (u : List ℕ) → Stops (afterCommas (printEach ss) ++ (closing ∷ u))
 stops-after none u = λ h. h
 stops-after (more s ss) u = λ h. h
@@ -68,7 +71,9 @@ tells-more : (s s′ : Shape) (ss ss′ : Shapes) → Tells s s′ → TellsAfte
 tells-more s s′ ss ss′ f g u v e =
     let e′ = sym (append-assoc (print s) (afterCommas (printEach ss)) (closing ∷ u)) ∙ e
     ∙ append-assoc (print s′) (afterCommas (printEach ss′)) (closing ∷ v) in
-    let p = f (afterCommas (printEach ss) ++ (closing ∷ u)) (afterCommas (printEach ss′) ++ (closing ∷ v)) (stops-after ss u) (stops-after ss′ v) e′ in
+    let x = afterCommas (printEach ss) ++ (closing ∷ u) in
+    let y = afterCommas (printEach ss′) ++ (closing ∷ v) in
+    let p = f x y (stops-after ss u) (stops-after ss′ v) e′ in
     let q = g u v (p .1) in
     (ap₂ more (p .0) (q .0), q .1)
 
@@ -89,8 +94,8 @@ mutual
   first-split : (ss ss′ : Shapes) (u v : List ℕ)
       → withCommas (printEach ss) ++ (closing ∷ u) ≡ withCommas (printEach ss′) ++ (closing ∷ v) → (ss ≡ ss′) × (u ≡ v)
   first-split none none u v e = (refl, tail-eq-of-cons-eq e)
-  first-split none (more s ss) u v e = absurd (print-first s _ _ (sym (append-assoc (print s) (afterCommas (printEach ss)) (closing ∷ v)) ∙ sym e))
-  first-split (more s ss) none u v e = absurd (print-first s _ _ (sym (append-assoc (print s) (afterCommas (printEach ss)) (closing ∷ u)) ∙ e))
+  first-split none (more s ss) u v e = absurd (children-first s ss u v (sym e))
+  first-split (more s ss) none u v e = absurd (children-first s ss v u e)
   first-split (more s ss) (more s′ ss′) u v e =
       tells-more s s′ ss ss′ (λ a b sa sb q. print-split s s′ a b sa sb q) (λ a b q. after-split ss ss′ a b q) u v e
 

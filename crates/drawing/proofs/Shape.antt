@@ -5,14 +5,13 @@
 --     taxon-cluster                    each taxon of the top is a cluster of it
 --     isApart, areApart, apart-of-once at every vertex the children are apart; so it is where no cluster stands twice
 -- Assumes nothing.
-use mathlib.Core.Path.{_≡_, refl, sym, ap, _∙_, subst}
-use mathlib.Core.Logic.{_⊎_, inl, inr, ⊎-elim, _≢_}
+use mathlib.Core.Path.{refl, sym, ap, _∙_, subst}
+use mathlib.Core.Logic.{⊎-elim, _≢_}
 use mathlib.Core.Bool.{Bool, true, _&&_}
-use mathlib.Core.List.{List, [], _∷_, _++_, map, Memᴰ·cast, Memᴰ·append-left, Memᴰ·append-right, List·Memᴰ·append-cases, List·Memᴰ·eq-of-singleton}
+use mathlib.Core.List.{map, Memᴰ·cast, Memᴰ·append-left, Memᴰ·append-right, List·Memᴰ·append-cases, List·Memᴰ·eq-of-singleton}
 use mathlib.Core.List.{List·Memᴰ as Mem, List·Memᴰ·head as here, List·Memᴰ·tail as there, List·Memᴰ·not-nil as mem-nil}
 use Prim.Native.Nat.{ℕ, _^_, _≤_}
 use native.Mathlib.Omega.{arith}
-use lib.Bits.{bitOr}
 use lib.Dec.{T, leb, leb→le}
 use lib.ListN.{length}
 use Rattle.laws.specs.Cluster.{inside, apart, unionOf}
@@ -20,8 +19,8 @@ use Rattle.laws.specs.Lists.{every, Once}
 use Rattle.laws.proofs.Tests.{T-and, and-T}
 use Rattle.laws.proofs.Keep.{→every}
 use Rattle.laws.proofs.Digits.{pow-has}
-use Rattle.laws.proofs.Cluster.{inside-refl, inside-trans, has-of-inside, inside-of-has, →apart, taxon-of-union, taxon-nonzero, zero-of-inside}
-use Rattle.laws.proofs.Cluster.{inside-union-l, inside-unionOf}
+use Rattle.laws.proofs.Cluster.{inside-refl, inside-trans, has-of-inside, inside-of-has, zero-of-inside, inside-unionOf}
+use Rattle.laws.proofs.Cluster.{→apart, taxon-of-union, taxon-nonzero}
 use Rattle.laws.proofs.Split.{Parted, once-of-append}
 use Rattle.trees.specs.Tuple.{allApart}
 use Rattle.drawing.specs.Shape.{Shape, taxon, vertex, Shapes, none, more, topOf, topsOf, clustersOf, clustersIn}
@@ -59,7 +58,8 @@ mutual
   pub clusters-inside : (ss : Shapes) (c : ℕ) → Mem c (clustersIn ss) → (k : ℕ) × Mem k (topsOf ss) × T (inside c k)
   clusters-inside none c m = absurd (mem-nil m)
   clusters-inside (more s ss) c m =
-      ⊎-elim (λ k. (topOf s, here refl, cluster-inside s c k)) (λ k. within-more s ss c (clusters-inside ss c k)) (List·Memᴰ·append-cases (clustersOf s) m)
+      ⊎-elim (λ k. (topOf s, here refl, cluster-inside s c k)) (λ k. within-more s ss c (clusters-inside ss c k))
+      (List·Memᴰ·append-cases (clustersOf s) m)
 
 -- ---- an ordered vertex
 
@@ -90,7 +90,8 @@ mutual
   top-nonzero (vertex ss) h =
       let o = ordered→ ss h in
       let k = first-top ss (o .two) in
-      nonzero-of-inside (k .0) (unionOf (topsOf ss)) (inside-unionOf (topsOf ss) (k .0) (k .1)) (λ z. tops-nonzero ss (o .each) (k .0) (k .1) z)
+      nonzero-of-inside (k .0) (unionOf (topsOf ss)) (inside-unionOf (topsOf ss) (k .0) (k .1))
+      (λ z. tops-nonzero ss (o .each) (k .0) (k .1) z)
 
   pub tops-nonzero : (ss : Shapes) → T (areOrdered ss) → (k : ℕ) → Mem k (topsOf ss) → k ≢ 0
   tops-nonzero none h k m z = mem-nil m
@@ -137,7 +138,8 @@ tops-apart : (ss : Shapes) → Once (clustersIn ss) → T (allApart (topsOf ss))
 tops-apart none o = tt
 tops-apart (more s ss) o =
     let p = once-of-append (clustersOf s) (clustersIn ss) o in
-    and-T (every (apart (topOf s)) (topsOf ss)) (allApart (topsOf ss)) (→every (apart (topOf s)) (topsOf ss) (away p)) (tops-apart ss (p .right))
+    and-T (every (apart (topOf s)) (topsOf ss)) (allApart (topsOf ss)) (→every (apart (topOf s)) (topsOf ss) (away p))
+    (tops-apart ss (p .right))
   where
     away : Parted (clustersOf s) (clustersIn ss) → (k : ℕ) → Mem k (topsOf ss) → T (apart (topOf s) k)
     away p k m = →apart (topOf s) k (λ t x y. p .none (2 ^ t) (taxon-cluster s t (inside-of-has t (topOf s) x))

@@ -9,8 +9,9 @@
 -- Assumes nothing.
 use mathlib.Core.Path.{_≡_, refl, sym, ap, _∙_, subst}
 use mathlib.Core.Logic.{_⊎_, inl, inr, _≢_}
-use mathlib.Core.Bool.{Bool, true, false, not, cond, _&&_}
-use mathlib.Core.List.{List, [], _∷_, _++_, map, reverse, reverse-cons, Memᴰ·cast, Memᴰ·map, Memᴰ·of-map, List·Memᴰ·append-cases, List·Memᴰ·eq-of-singleton}
+use mathlib.Core.Bool.{Bool, true, false, not, cond}
+use mathlib.Core.List.{List, [], _∷_, _++_, map, reverse, reverse-cons}
+use mathlib.Core.List.{Memᴰ·cast, Memᴰ·map, Memᴰ·of-map, List·Memᴰ·append-cases, List·Memᴰ·eq-of-singleton}
 use mathlib.Core.List.{List·Memᴰ as Mem, List·Memᴰ·head as here, List·Memᴰ·tail as there, List·Memᴰ·not-nil as mem-nil}
 use Prim.Native.Nat.{ℕ, suc, _≤_, _<_}
 use native.Mathlib.Omega.{arith}
@@ -78,7 +79,8 @@ module _ (key : ℕ → ℕ) where
       past (there (here e)) ih = here e
       past (there (there k)) ih = there (ih (there k))
 
-      go : (b : Bool) → Mem x (c ∷ y ∷ ys) → (Mem x (c ∷ ys) → Mem x (insertBy key c ys)) → Mem x (cond b (y ∷ insertBy key c ys) (c ∷ y ∷ ys))
+      go : (b : Bool) → Mem x (c ∷ y ∷ ys) → (Mem x (c ∷ ys) → Mem x (insertBy key c ys))
+          → Mem x (cond b (y ∷ insertBy key c ys) (c ∷ y ∷ ys))
       go true k ih = past k ih
       go false k ih = k
 
@@ -94,7 +96,8 @@ module _ (key : ℕ → ℕ) where
       past (here e) ih = there (here e)
       past (there k) ih = back (ih k)
 
-      go : (b : Bool) → Mem x (cond b (y ∷ insertBy key c ys) (c ∷ y ∷ ys)) → (Mem x (insertBy key c ys) → Mem x (c ∷ ys)) → Mem x (c ∷ y ∷ ys)
+      go : (b : Bool) → Mem x (cond b (y ∷ insertBy key c ys) (c ∷ y ∷ ys)) → (Mem x (insertBy key c ys) → Mem x (c ∷ ys))
+          → Mem x (c ∷ y ∷ ys)
       go true k ih = past k ih
       go false k ih = k
 
@@ -136,7 +139,8 @@ module _ (key : ℕ → ℕ) where
   length-insert c [] = refl
   length-insert c (y ∷ ys) = go (ltb (key y) (key c)) (length-insert c ys)
     where
-      go : (b : Bool) → length (insertBy key c ys) ≡ suc (length ys) → length (cond b (y ∷ insertBy key c ys) (c ∷ y ∷ ys)) ≡ suc (suc (length ys))
+      go : (b : Bool) → length (insertBy key c ys) ≡ suc (length ys)
+          → length (cond b (y ∷ insertBy key c ys) (c ∷ y ∷ ys)) ≡ suc (suc (length ys))
       go true ih = ap suc ih
       go false ih = refl
 

@@ -5,10 +5,9 @@
 --     text-length-le     so is a text, by two
 --     full-narrow, full-wide     in numbers, for 32 and for 64 taxa
 -- Assumes nothing.
-use mathlib.Core.Path.{_≡_, refl, sym, ap, _∙_, subst}
-use mathlib.Core.Logic.{_⊎_, inl, inr}
-use mathlib.Core.Bool.{Bool, true, false, cond, _&&_}
-use mathlib.Core.List.{List, [], _∷_, _++_}
+use mathlib.Core.Path.{_≡_, refl}
+use mathlib.Core.Bool.{Bool, true, false, cond}
+use mathlib.Core.List.{[], _∷_}
 use Prim.Native.Nat.{ℕ, zero, suc, _+_, _*_, _^_, _≤_, _<_}
 use native.Mathlib.Decide.{ℕ-discrete}
 use native.Mathlib.Nat.{le-refl}
@@ -17,16 +16,16 @@ use lib.Bits.{bitOr}
 use lib.Dec.{T}
 use lib.ListN.{length, length-append}
 use Rattle.laws.specs.Cluster.{inside, apart, unionOf}
-use Rattle.laws.specs.Limits.{narrow}
 use Rattle.laws.specs.Lists.{every, Once}
-use Rattle.laws.proofs.Tests.{T-and, T-dec, T-true, T-false}
+use Rattle.laws.proofs.Tests.{T-and, T-true}
 use Rattle.laws.proofs.Digits.{has-lt, has-pow}
-use Rattle.laws.proofs.Cluster.{inside-refl, inside-trans, le-of-inside, inside-union-l, inside-union-r, has-of-inside, apart→, apart-unionOf}
+use Rattle.laws.proofs.Cluster.{inside-refl, inside-trans, le-of-inside, inside-union-l, inside-union-r, has-of-inside}
+use Rattle.laws.proofs.Cluster.{apart→, apart-unionOf}
 use Rattle.trees.specs.Tuple.{allApart}
 use Rattle.drawing.specs.Decimal.{figures, decimal}
 use Rattle.drawing.specs.Shape.{Shape, taxon, vertex, Shapes, none, more, topOf, topsOf, clustersOf, isOrdered, areOrdered}
-use Rattle.drawing.specs.Shape.{opening, closing, semicolon, afterCommas, withCommas, print, printEach, textBytes}
-use Rattle.drawing.proofs.Shape.{Ordered, ordered→, isApart, areApart, apart-of-once}
+use Rattle.drawing.specs.Text.{semicolon, afterCommas, print, printEach, textBytes}
+use Rattle.drawing.proofs.Shape.{ordered→, isApart, areApart, apart-of-once}
 
 abbrev cost : ℕ → ℕ
 cost t = 3 + length (decimal t)
@@ -107,7 +106,8 @@ module _ (w : ℕ) where
         let x = T-and (every (λ (y : ℕ). apart (topOf s) y) (topsOf ss)) (allApart (topsOf ss)) p in
         let f = print-length-le s (q .0) (r .0) (omega (arith, le-of-inside (topOf s) (bitOr (topOf s) U) (inside-union-l (topOf s) U))) in
         let g = each-length-le ss (q .1) (x .1) (r .1) (omega (arith, le-of-inside U (bitOr (topOf s) U) (inside-union-r (topOf s) U))) in
-        omega (arith, cost-union w (topOf s) U (apart-unionOf (topOf s) (topsOf ss) (x .0)), length-append (print s) (afterCommas (printEach ss)))
+        let c = cost-union w (topOf s) U (apart-unionOf (topOf s) (topsOf ss) (x .0)) in
+        omega (arith, length-append (print s) (afterCommas (printEach ss)))
 
 -- ---- texts
 

@@ -10,7 +10,7 @@
 --     list-length-le            the list of clusters has at most two for each taxon, less one: 63 for 32 taxa
 -- That equal texts are of equal shapes is `print-inj` (`Print.antt`); how a writer meets the children of a part stands in `Parts.antt`.
 -- Assumes nothing.
-use mathlib.Core.Path.{_≡_, refl, sym, ap, _∙_, subst}
+use mathlib.Core.Path.{_≡_, sym, ap, _∙_, subst}
 use mathlib.Core.List.{List}
 use mathlib.Core.List.{List·Memᴰ as Mem}
 use Prim.Native.Nat.{ℕ, _+_, _*_, _^_, _≤_, _<_}
@@ -133,15 +133,20 @@ module _ (xs ys : List ℕ) (C D : ℕ) (t : TreeOn xs C) (u : TreeOn ys D) (e :
   text-top = sym (shape-top xs C t) ∙ ap topOf shapes-equal ∙ shape-top ys D u
 
 module _ (G : Given) (fits : G .width ≤ 64) where
-  pub text-tree : (C D : ℕ) (xs ys : List ℕ) → Mem xs (treesOn (G .width) (G .degree) (G .listed) C) → Mem ys (treesOn (G .width) (G .degree) (G .listed) D)
+  pub text-tree : (C D : ℕ) (xs ys : List ℕ)
+      → Mem xs (treesOn (G .width) (G .degree) (G .listed) C) → Mem ys (treesOn (G .width) (G .degree) (G .listed) D)
       → textOf xs C ≡ textOf ys D → xs ≡ ys
   text-tree C D xs ys m k e =
       let h = text-members xs ys C D (trees-on G fits C xs m) (trees-on G fits D ys k) e in
-      let f = fam-ext (famOf G xs) (famOf G ys) (λ c p. →elem c ys (h .to c (elem→ c xs p))) (λ c p. →elem c xs (h .from c (elem→ c ys p))) in
+      let f = fam-ext (famOf G xs) (famOf G ys) (λ c p. →elem c ys (h .to c (elem→ c xs p)))
+      (λ c p. →elem c xs (h .from c (elem→ c ys p))) in
       fam-keep G xs (tree-of G C xs m .0) ∙ ap (λ (S : Fam). keep S (G .listed)) f ∙ sym (fam-keep G ys (tree-of G D ys k .0))
 
-  -- ---- the list of clusters
-  pub list-length-le : (C : ℕ) (xs : List ℕ) → Mem xs (treesOn (G .width) (G .degree) (G .listed) C) → length (ascending xs) + 1 ≤ 2 * G .width
+-- ---- the list of clusters
+
+module _ (G : Given) where
+  pub list-length-le : (C : ℕ) (xs : List ℕ) → Mem xs (treesOn (G .width) (G .degree) (G .listed) C)
+      → length (ascending xs) + 1 ≤ 2 * G .width
   list-length-le C xs m =
       let h = tree-of G C xs m .1 in
       let k = ones-le (G .width) C (G .sound C (h .listed C (h .top)) .1) in

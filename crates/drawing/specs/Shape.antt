@@ -1,12 +1,10 @@
--- Shapes and their text (document 01, "Drawing it": "The Newick text has taxon numbers in decimal, children in order of their smallest
--- taxon, commas between, parentheses round, ";" at the end, no spaces"). Laws: `proofs/Shape.antt`, `proofs/Only.antt`, `proofs/Print.antt`.
---     Shape, Shapes      a vertex is a taxon or a list of vertices
+-- Shapes: a vertex is a taxon or a list of at least two vertices (document 01, "What a tree is": "there are always at least two" children;
+-- "Drawing it": "children in order of their smallest taxon"). Laws: `proofs/Shape.antt`, `proofs/Only.antt`.
+--     Shape, Shapes      a vertex is a taxon or has vertices for children; that they are two or more is asked by `isOrdered`
 --     topOf s, topsOf ss the cluster of a vertex: of a taxon itself, else the union of its children's; and those of a list
 --     clustersOf s       the clusters of all its vertices
 --     smallest c         the smallest taxon of a cluster
 --     isOrdered s        every vertex that is no taxon has two children or more, in order of their smallest taxon
---     print s            its bytes: a taxon in decimal, else the children with commas between and parentheses round
---     textBytes s        the same with ";" at the end
 -- Assumes nothing.
 use mathlib.Core.Bool.{Bool, true, _&&_}
 use mathlib.Core.List.{List, [], _∷_, _++_, map}
@@ -15,7 +13,6 @@ use lib.Dec.{leb, ltb}
 use lib.ListN.{length}
 use Rattle.laws.specs.Cluster.{lowest, unionOf}
 use Rattle.laws.specs.Lists.{every}
-use Rattle.drawing.specs.Decimal.{decimal}
 
 mutual
   pub data Shape : Type 0 where
@@ -63,37 +60,3 @@ abbrev mutual
   pub areOrdered : Shapes → Bool
   areOrdered none = true
   areOrdered (more s ss) = isOrdered s && areOrdered ss
-
--- ---- text
-abbrev pub opening : ℕ
-opening = 40
-
-abbrev pub closing : ℕ
-closing = 41
-
-abbrev pub comma : ℕ
-comma = 44
-
-abbrev pub semicolon : ℕ
-semicolon = 59
-
-abbrev pub afterCommas : List (List ℕ) → List ℕ
-afterCommas [] = []
-afterCommas (l ∷ ls) = comma ∷ (l ++ afterCommas ls)
-
--- one after another with commas between
-abbrev pub withCommas : List (List ℕ) → List ℕ
-withCommas [] = []
-withCommas (l ∷ ls) = l ++ afterCommas ls
-
-abbrev mutual
-  pub print : Shape → List ℕ
-  print (taxon t) = decimal t
-  print (vertex ss) = opening ∷ (withCommas (printEach ss) ++ (closing ∷ []))
-
-  pub printEach : Shapes → List (List ℕ)
-  printEach none = []
-  printEach (more s ss) = print s ∷ printEach ss
-
-abbrev pub textBytes : Shape → List ℕ
-textBytes s = print s ++ (semicolon ∷ [])

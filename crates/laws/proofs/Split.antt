@@ -4,7 +4,7 @@
 --     once-of-append     so it is where one behind the other has no element twice
 -- Assumes nothing.
 use mathlib.Core.Path.{sym}
-use mathlib.Core.Bool.{Bool, _&&_}
+use mathlib.Core.Bool.{Bool}
 use mathlib.Core.List.{List, [], _∷_, _++_, Memᴰ·append-left, Memᴰ·append-right, Memᴰ·cast}
 use mathlib.Core.List.{List·Memᴰ as Mem, List·Memᴰ·head as here, List·Memᴰ·tail as there, List·Memᴰ·not-nil as mem-nil}
 use lib.Dec.{T}
