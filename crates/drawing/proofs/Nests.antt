@@ -1,10 +1,11 @@
 -- Sets of clusters that nest and have the single taxa of their members: trees, without their top and degree. The children of a member.
 --     Nests xs              the facts
---     child→, →child        a child, as facts
+--     Child xs C c, child→, →child     c is a child of C, as facts
 --     childWith-child       the largest member with a taxon, strictly inside C, is a child of C
 --     child-over            a member strictly inside C lies inside a child of C
 --     children-apart        two children are apart
---     children-union        the children make up C, and are two at least
+--     taxon-strict          a single taxon lies strictly inside C, where C isn't one itself
+--     children-union, children-two     the children make up C, and are two at least
 --     size-lt               a cluster strictly inside another has fewer taxa
 -- Assumes nothing.
 use mathlib.Core.Path.{_≡_, sym, subst}

@@ -1,8 +1,9 @@
 -- The clusters of a shape, whatever the shape.
 --     top-cluster, tops-clusters       the tops are clusters of it
 --     cluster-inside, clusters-inside  each cluster lies inside the top, or inside the top of one child
---     top-nonzero, cluster-nonzero     none is empty where the shape is ordered
---     taxon-cluster                    each taxon of the top is a cluster of it
+--     Ordered ss, ordered→             the children of an ordered vertex, as facts
+--     first-top                        there is one at least
+--     tops-nonzero, cluster-nonzero, clusters-nonzero     none is empty where the shape is ordered
 --     isApart, areApart, apart-of-once at every vertex the children are apart; so it is where no cluster stands twice
 -- Assumes nothing.
 use mathlib.Core.Path.{refl, sym, ap, _∙_, subst}
@@ -85,7 +86,7 @@ nonzero-of-inside : (a b : ℕ) → T (inside a b) → a ≢ 0 → b ≢ 0
 nonzero-of-inside a b i n e = n (zero-of-inside a (subst (λ (x : ℕ). T (inside a x)) e i))
 
 mutual
-  pub top-nonzero : (s : Shape) → T (isOrdered s) → topOf s ≢ 0
+  top-nonzero : (s : Shape) → T (isOrdered s) → topOf s ≢ 0
   top-nonzero (taxon t) h = taxon-nonzero t
   top-nonzero (vertex ss) h =
       let o = ordered→ ss h in
@@ -113,7 +114,7 @@ mutual
 -- ---- the taxa of a shape are clusters of it
 
 mutual
-  pub taxon-cluster : (s : Shape) (t : ℕ) → T (inside (2 ^ t) (topOf s)) → Mem (2 ^ t) (clustersOf s)
+  taxon-cluster : (s : Shape) (t : ℕ) → T (inside (2 ^ t) (topOf s)) → Mem (2 ^ t) (clustersOf s)
   taxon-cluster (taxon u) t i = here (ap (λ (x : ℕ). 2 ^ x) (pow-has u t (has-of-inside t (2 ^ u) i)))
   taxon-cluster (vertex ss) t i = there (taxa-clusters ss t i)
 

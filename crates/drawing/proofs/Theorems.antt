@@ -3,7 +3,7 @@
 --     tree-on, trees-on         a tree as a family, and a tree of the definition, have them
 --     shape-top, shape-ordered, shape-clusters, shape-once     the shape has C for its top, is ordered, and has the members, each once
 --     shape-only                it is the only ordered shape that has them
---     text-members              equal texts have the same members, and the same top
+--     text-members, text-top    equal texts have the same members, and the same top
 --     text-tree                 of trees of one list, equal texts are one tree
 --     text-length               a text has at most so many bytes
 --     text-length-narrow, text-length-wide     148 bytes for 32 taxa, 308 for 64

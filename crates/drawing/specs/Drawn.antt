@@ -1,9 +1,10 @@
 -- How a set of clusters is drawn (document 01, "Drawing it": "The cluster list goes out ascending"; "children in order of their smallest
 -- taxon"). Laws: `proofs/Sorted.antt`, `proofs/Drawn.antt`, `proofs/Parts.antt`.
---     sortBy k cs            the clusters in ascending order of a key
+--     insertBy, sortBy       into a list in ascending order of a key; the clusters in that order
 --     ascending xs           a set of clusters in ascending order of number
 --     childrenInOrder xs C   the children of C in order of their smallest taxon
---     shapeOf n xs C         the shape of the member C of xs: n is no less than its taxa
+--     shapesBy f cs          the shapes f c of some clusters
+--     shapeOf n xs C         the shape of the member C of xs: one taxon is itself, any other its children's; n is no less than its taxa
 --     textOf xs C            its text
 -- Assumes nothing.
 use mathlib.Core.Bool.{cond}

@@ -2,9 +2,10 @@
 -- "Drawing it": "children in order of their smallest taxon"). Laws: `proofs/Shape.antt`, `proofs/Only.antt`.
 --     Shape, Shapes      a vertex is a taxon or has vertices for children; that they are two or more is asked by `isOrdered`
 --     topOf s, topsOf ss the cluster of a vertex: of a taxon itself, else the union of its children's; and those of a list
---     clustersOf s       the clusters of all its vertices
+--     clustersOf s, clustersIn ss     the clusters of all its vertices; and those of a list
 --     smallest c         the smallest taxon of a cluster
---     isOrdered s        every vertex that is no taxon has two children or more, in order of their smallest taxon
+--     ascends ns         strictly ascending
+--     isOrdered s, areOrdered ss     every vertex that is no taxon has two children or more, in order of their smallest taxon
 -- Assumes nothing.
 use mathlib.Core.Bool.{Bool, true, _&&_}
 use mathlib.Core.List.{List, [], _∷_, _++_, map}
@@ -47,7 +48,6 @@ abbrev mutual
 abbrev pub smallest : ℕ → ℕ
 smallest c = lowest 64 c
 
--- strictly ascending
 abbrev pub ascends : List ℕ → Bool
 ascends [] = true
 ascends (n ∷ ns) = every (ltb n) ns && ascends ns

@@ -1,7 +1,9 @@
 -- The Newick text of a shape (document 01, "Drawing it": "The Newick text has taxon numbers in decimal, children in order of their
 -- smallest taxon, commas between, parentheses round, ";" at the end, no spaces"). Laws: `proofs/Print.antt`, `proofs/TextLength.antt`.
---     print s            the bytes of a vertex: a taxon in decimal, else the children with commas between and parentheses round
---     textBytes s        the same with ";" at the end
+--     opening, closing, comma, semicolon     bytes
+--     afterCommas, withCommas     texts one after another, each after a comma; with commas between
+--     print s, printEach ss       the bytes of a vertex: a taxon in decimal, else the children with commas between and parentheses round
+--     textBytes s                 the same with ";" at the end
 -- Assumes nothing.
 use mathlib.Core.List.{List, [], _∷_, _++_}
 use Prim.Native.Nat.{ℕ}
@@ -24,7 +26,6 @@ abbrev pub afterCommas : List (List ℕ) → List ℕ
 afterCommas [] = []
 afterCommas (l ∷ ls) = comma ∷ (l ++ afterCommas ls)
 
--- one after another with commas between
 abbrev pub withCommas : List (List ℕ) → List ℕ
 withCommas [] = []
 withCommas (l ∷ ls) = l ++ afterCommas ls
