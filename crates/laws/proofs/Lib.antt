@@ -30,3 +30,7 @@ pub mod Laminar
 pub mod Descends
 -- lists of images, lists one behind another, and a list backward
 pub mod Appended
+-- the lowest taxon of a cluster
+pub mod Lowest
+-- lists one behind another, taken apart
+pub mod Split

@@ -1,0 +1,42 @@
+-- How a set of clusters is drawn (document 01, "Drawing it": "The cluster list goes out ascending"; "children in order of their smallest
+-- taxon"). Laws: `proofs/Sorted.antt`, `proofs/Drawn.antt`, `proofs/Parts.antt`.
+--     insertBy, sortBy       into a list in ascending order of a key; the clusters in that order
+--     ascending xs           a set of clusters in ascending order of number
+--     childrenInOrder xs C   the children of C in order of their smallest taxon
+--     shapesBy f cs          the shapes f c of some clusters
+--     shapeOf n xs C         the shape of the member C of xs: one taxon is itself, any other its children's; n is no less than its taxa
+--     textOf xs C            its text
+-- Assumes nothing.
+use mathlib.Core.Bool.{cond}
+use mathlib.Core.List.{List, [], _∷_}
+use Prim.Native.Nat.{ℕ, zero, suc}
+use lib.Dec.{ltb}
+use Rattle.laws.specs.Cluster.{single, size}
+use Rattle.trees.specs.Tree.{children}
+use Rattle.drawing.specs.Shape.{Shape, taxon, vertex, Shapes, none, more, smallest}
+use Rattle.drawing.specs.Text.{textBytes}
+
+abbrev pub insertBy : (ℕ → ℕ) → ℕ → List ℕ → List ℕ
+insertBy key c [] = c ∷ []
+insertBy key c (x ∷ xs) = cond (ltb (key x) (key c)) (x ∷ insertBy key c xs) (c ∷ x ∷ xs)
+
+abbrev pub sortBy : (ℕ → ℕ) → List ℕ → List ℕ
+sortBy key [] = []
+sortBy key (c ∷ cs) = insertBy key c (sortBy key cs)
+
+abbrev pub ascending : List ℕ → List ℕ
+ascending xs = sortBy (λ (c : ℕ). c) xs
+
+abbrev pub childrenInOrder : List ℕ → ℕ → List ℕ
+childrenInOrder xs C = sortBy smallest (children xs C)
+
+abbrev pub shapesBy : (ℕ → Shape) → List ℕ → Shapes
+shapesBy f [] = none
+shapesBy f (c ∷ cs) = more (f c) (shapesBy f cs)
+
+unfoldable pub shapeOf : ℕ → List ℕ → ℕ → Shape
+shapeOf zero xs C = taxon (smallest C)
+shapeOf (suc n) xs C = cond (single C) (taxon (smallest C)) (vertex (shapesBy (shapeOf n xs) (childrenInOrder xs C)))
+
+abbrev pub textOf : List ℕ → ℕ → List ℕ
+textOf xs C = textBytes (shapeOf (size C) xs C)
