@@ -21,7 +21,7 @@ use lib.ListN.{length}
 use Rattle.laws.specs.Cluster.{inside, apart, single, size, unionOf}
 use Rattle.laws.specs.Lists.{keepIf, keep, Once}
 use Rattle.laws.proofs.Tests.{T-true, T-false, eq→eqb}
-use Rattle.laws.proofs.Keep.{mem-keep, mem-of-keep, keep-none-mem, keep-all}
+use Rattle.laws.proofs.Keep.{mem-keep, mem-of-keep, keep-none, keep-all}
 use Rattle.laws.proofs.Once.{once-keep}
 use Rattle.laws.proofs.Digits.{Has, or-has}
 use Rattle.laws.proofs.Cluster.{inside→, →inside, inside-refl, inside-trans, le-of-inside, zero-of-inside, has-of-inside, apart→}
@@ -100,7 +100,7 @@ module _ (xs : List ℕ) (N : Nests xs) (C : ℕ) where
   partsIn left = keep (λ (c : ℕ). inside c left) order
 
   pub parts-none : partsIn 0 ≡ []
-  parts-none = keep-none-mem (λ (c : ℕ). inside c 0) order (λ c m h. nonzero c (in-order→ c m) (zero-of-inside c h))
+  parts-none = keep-none (λ (c : ℕ). inside c 0) order (λ c m h. nonzero c (in-order→ c m) (zero-of-inside c h))
 
   pub parts-all : partsIn C ≡ order
   parts-all = keep-all (λ (c : ℕ). inside c C) order (λ c m. strict→ c C (in-order→ c m .strictly) .0)

@@ -26,12 +26,13 @@ use Rattle.laws.specs.Lists.{keep, Once}
 use Rattle.laws.proofs.Keep.{mem-keep, mem-of-keep, elem→, →elem}
 use Rattle.laws.proofs.Once.{once-keep}
 use Rattle.laws.proofs.Digits.{has-lt}
+use Rattle.laws.proofs.Falling.{sublist-is-elem}
 use Rattle.laws.proofs.Cluster.{inside-trans, has-of-inside}
 use Rattle.trees.specs.Tree.{treesOn}
 use Rattle.trees.proofs.Families.{Fam, fam-ext}
 use Rattle.trees.proofs.TreeFacts.{Given, Tree}
 use Rattle.trees.proofs.TreeSize.{treesOn-length-le}
-use Rattle.trees.proofs.TreeTest.{famOf, fam-keep, tree-of}
+use Rattle.trees.proofs.TreeTest.{famOf, tree-of}
 use Rattle.drawing.specs.Shape.{Shape, topOf, clustersOf, isOrdered}
 use Rattle.drawing.specs.Drawn.{ascending, shapeOf, textOf}
 use Rattle.drawing.proofs.Sorted.{length-sort}
@@ -77,7 +78,7 @@ module _ (G : Given) (fits : G .width ≤ 64) (C : ℕ) where
   pub trees-on : (xs : List ℕ) → Mem xs (treesOn (G .width) (G .degree) (G .listed) C) → TreeOn xs C
   trees-on xs m =
       let q = tree-of G C xs m in
-      subst (λ (l : List ℕ). TreeOn l C) (sym (fam-keep G xs (q .0))) (tree-on (famOf G xs) (q .1))
+      subst (λ (l : List ℕ). TreeOn l C) (sym (sublist-is-elem (G .listed) xs (G .once) (q .0))) (tree-on (famOf G xs) (q .1))
 
 -- ---- the shape of a tree
 
@@ -140,7 +141,9 @@ module _ (G : Given) (fits : G .width ≤ 64) where
       let h = text-members xs ys C D (trees-on G fits C xs m) (trees-on G fits D ys k) e in
       let f = fam-ext (famOf G xs) (famOf G ys) (λ c p. →elem c ys (h .to c (elem→ c xs p)))
       (λ c p. →elem c xs (h .from c (elem→ c ys p))) in
-      fam-keep G xs (tree-of G C xs m .0) ∙ ap (λ (S : Fam). keep S (G .listed)) f ∙ sym (fam-keep G ys (tree-of G D ys k .0))
+      sublist-is-elem (G .listed) xs (G .once) (tree-of G C xs m .0)
+      ∙ ap (λ (S : Fam). keep S (G .listed)) f
+      ∙ sym (sublist-is-elem (G .listed) ys (G .once) (tree-of G D ys k .0))
 
 -- ---- the list of clusters
 
@@ -150,5 +153,5 @@ module _ (G : Given) where
   list-length-le C xs m =
       let h = tree-of G C xs m .1 in
       let k = ones-le (G .width) C (G .sound C (h .listed C (h .top)) .1) in
-      let l = treesOn-length-le (G .width) (G .degree) (G .listed) (λ c j. G .sound c j .0) (G .once) C xs m in
+      let l = treesOn-length-le G C xs m in
       omega (arith, length-sort (λ (c : ℕ). c) xs)
