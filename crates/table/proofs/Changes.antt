@@ -1,0 +1,100 @@
+-- A list changed once and again. A change is a cluster with a new weight and state; one that isn't taken leaves the list alone.
+--     HasCluster l c                  c is the cluster of a record
+--     firstPlace l c                  the first record with the cluster c; the number of records where there is none
+--     isTaken l x                     the change x names the cluster of a record, and has a score
+--     changeOne, changeAll            a list with one change, and with one after another
+--     taken-iff, taken-place, place-cluster     when a change is taken, and which record it names
+--     AcceptedBytes l d               l is accepted, and of bytes
+--     change-accepted, changes-accepted     and stays so
+-- Assumes nothing.
+use mathlib.Core.Path.{_≡_, sym}
+use mathlib.Core.Logic.{_↔_}
+use mathlib.Core.Bool.{Bool, true, false, cond, _&&_}
+use mathlib.Core.List.{List, [], _∷_}
+use Prim.Native.Nat.{ℕ, _<_}
+use native.Mathlib.Decide.{decLt}
+use native.Mathlib.Omega.{arith}
+use borrow.Author.Tests.{eqb-true, eqb-false}
+use lib.Dec.{T, eqb, ltb, ltb→lt, lt→ltb}
+use Rattle.laws.proofs.Tests.{T-and, and-T}
+use Rattle.trees.specs.Rows.{Row}
+use Rattle.table.specs.Listing.{recordsIn, rowIn}
+use Rattle.table.specs.Rescore.{isScore}
+use Rattle.table.proofs.Laws.Accepted.{Accepted}
+use Rattle.table.proofs.Changed.{changedBytes, changed-bytes, changed-accepted}
+use Rattle.table.proofs.Rewritten.{Bytes}
+use Rattle.table.proofs.Laws.Scan.{firstFrom, first-before, first-at}
+
+abbrev pub HasCluster : List ℕ → ℕ → Type 0
+HasCluster l c = (i : ℕ) × (i < recordsIn l) × (c ≡ rowIn l i .cluster)
+
+abbrev pub firstPlace : List ℕ → ℕ → ℕ
+firstPlace l c = firstFrom (λ (i : ℕ). eqb (rowIn l i .cluster) c) 0 (recordsIn l)
+
+abbrev pub isTaken : List ℕ → Row → Bool
+isTaken l x = ltb (firstPlace l (x .cluster)) (recordsIn l) && isScore (x .weight) (x .state)
+
+abbrev pub changeOne : List ℕ → Row → List ℕ
+changeOne l x = cond (isTaken l x) (changedBytes l (firstPlace l (x .cluster)) (x .weight) (x .state)) l
+
+abbrev pub changeAll : List ℕ → List Row → List ℕ
+changeAll l [] = l
+changeAll l (x ∷ xs) = changeAll (changeOne l x) xs
+
+module _ (l : List ℕ) (c : ℕ) where
+  abbrev named : ℕ → Bool
+  named i = eqb (rowIn l i .cluster) c
+
+  pub place-cluster : firstPlace l c < recordsIn l → c ≡ rowIn l (firstPlace l c) .cluster
+  place-cluster h = sym (eqb-true _ _ (first-at named 0 (recordsIn l) (omega arith)))
+
+  has-place : HasCluster l c → firstPlace l c < recordsIn l
+  has-place q = go (decLt (firstPlace l c) (recordsIn l))
+    where
+      go : Dec (firstPlace l c < recordsIn l) → firstPlace l c < recordsIn l
+      go (yes h) = h
+      go (no n) = absurd (eqb-false _ _ (first-before named 0 (recordsIn l) (q .0) (omega arith) (omega (arith, q .1))) (sym (q .2)))
+
+module _ (l : List ℕ) (x : Row) where
+  pub taken-place : T (isTaken l x) → (firstPlace l (x .cluster) < recordsIn l) × T (isScore (x .weight) (x .state))
+  taken-place h =
+      let q = T-and (ltb (firstPlace l (x .cluster)) (recordsIn l)) (isScore (x .weight) (x .state)) h in
+      (ltb→lt _ _ (q .0), q .1)
+
+  pub taken-iff : T (isTaken l x) ↔ (HasCluster l (x .cluster) × T (isScore (x .weight) (x .state)))
+  taken-iff = (to, from)
+    where
+      to : T (isTaken l x) → HasCluster l (x .cluster) × T (isScore (x .weight) (x .state))
+      to h = let q = taken-place h in ((firstPlace l (x .cluster), q .0, place-cluster l (x .cluster) (q .0)), q .1)
+
+      from : HasCluster l (x .cluster) × T (isScore (x .weight) (x .state)) → T (isTaken l x)
+      from k =
+          and-T (ltb (firstPlace l (x .cluster)) (recordsIn l)) (isScore (x .weight) (x .state))
+          (lt→ltb _ _ (has-place l (x .cluster) (k .0))) (k .1)
+
+-- what holds of a list and, where a change is taken, of the list changed
+module _ (P : List ℕ → Type 0) (l : List ℕ) (x : Row) where
+  change-by : P l → (T (isTaken l x) → P (changedBytes l (firstPlace l (x .cluster)) (x .weight) (x .state))) → P (changeOne l x)
+  change-by p q = go (isTaken l x) q
+    where
+      go : (b : Bool) → (T b → P (changedBytes l (firstPlace l (x .cluster)) (x .weight) (x .state)))
+          → P (cond b (changedBytes l (firstPlace l (x .cluster)) (x .weight) (x .state)) l)
+      go true f = f tt
+      go false f = p
+
+pub record AcceptedBytes (l : List ℕ) (d : ℕ) : Type 0 where
+  pub byte : Bytes l
+  pub accepted : Accepted l d
+
+pub change-accepted : (l : List ℕ) (d : ℕ) (x : Row) → AcceptedBytes l d → AcceptedBytes (changeOne l x) d
+change-accepted l d x k = change-by (λ (m : List ℕ). AcceptedBytes m d) l x k (λ h.
+    let q = taken-place l x h in
+    let i = firstPlace l (x .cluster) in
+    record {
+      byte = changed-bytes l (k .byte) i (x .weight) (x .state) (q .0) (q .1);
+      accepted = changed-accepted l d (k .byte) (k .accepted) i (x .weight) (x .state) (q .0) (q .1);
+    })
+
+pub changes-accepted : (l : List ℕ) (d : ℕ) (xs : List Row) → AcceptedBytes l d → AcceptedBytes (changeAll l xs) d
+changes-accepted l d [] k = k
+changes-accepted l d (x ∷ xs) k = changes-accepted (changeOne l x) d xs (change-accepted l d x k)

@@ -1,0 +1,219 @@
+-- Building: what is given in each case, and that working out the arranged rows of an accepted list is the build.
+--     build-of                what is given, by why the list is refused
+--     build-only              two outcomes that the promise of a build allows are equal
+--     Rows rs                 what holds of the rows of an accepted list
+--     workable, again-is      they may be worked out, and so worked out they are the built table
+--     InOrder l n s o         the records of l are read and in order
+--     made-bad, made-repeated, made-within, made-workable, made-accepted     refusals 5 and 6, and a success
+-- Assumes nothing.
+use mathlib.Core.Path.{_≡_, refl, sym, ap, ap₂, _∙_, subst}
+use mathlib.Core.Bool.{Bool, false}
+use mathlib.Core.Option.{Option, none}
+use mathlib.Core.List.{List, [], _∷_, map, Memᴰ·of-map}
+use mathlib.Core.List.{List·Memᴰ as Mem, List·Memᴰ·head as here, List·Memᴰ·tail as there}
+use Prim.Native.Nat.{ℕ, zero, suc, _-_, _/_, _≤_, _<_}
+use native.Mathlib.Decide.{decLe}
+use native.Mathlib.Omega.{arith}
+use lib.Dec.{T}
+use lib.ListN.{length, getD, length-map}
+use Rattle.laws.specs.Cluster.{inside}
+use Rattle.laws.specs.Limits.{narrow, degreeLow, degreeHigh}
+use Rattle.laws.proofs.Cluster.{zero-inside}
+use Rattle.laws.proofs.Falling.{Falling}
+use Rattle.laws.proofs.Tests.{T-true}
+use Rattle.cluster.specs.declared.refusal.Answer.{Answer}
+use Rattle.cluster.specs.declared.refusal.Answer.the-variants.{Done}
+use Rattle.cluster.specs.declared.refusal.Refusal.{Refusal}
+use Rattle.cluster.specs.declared.refusal.Refusal.the-variants.{BadRecord, Repeated}
+use Rattle.cluster.specs.Bytes.{byteValues}
+use Rattle.cluster.specs.Record.{recordBytes}
+use Rattle.cluster.specs.Refusal.{sentOf}
+use Rattle.cluster.proofs.Laws.Refusal.{sentOf-inj}
+use Rattle.trees.specs.Rows.{Row, Entry, clustersOf, cl}
+use Rattle.trees.specs.Result.{Result, blank}
+use Rattle.trees.specs.Built.{builtTable}
+use Rattle.trees.specs.Rescored.{workedOut, againIf, again}
+use Rattle.trees.proofs.Kind.{tableOf as workedFrom}
+use Rattle.trees.proofs.Rows.{RowFacts}
+use Rattle.trees.proofs.Built.{worked-is-built}
+use Rattle.table.specs.declared.listing.Listed.{Listed}
+use Rattle.table.specs.declared.listing.Order.{Order}
+use Rattle.table.specs.declared.making.Built.{Built}
+use Rattle.table.specs.declared.table.Table.{Table}
+use Rattle.table.specs.View.{rowCap, rowAt, entryAt, entriesOf, tableOf}
+use Rattle.table.specs.Fit.{keepsRules}
+use Rattle.table.specs.Listing.{rowIn, badFrom, repeats, repeatFrom, rowsTo, rowsOf, recordRefusal}
+use Rattle.table.specs.Searched.{clustersDown, Rising}
+use Rattle.table.specs.Working.{againTable, Workable}
+use Rattle.table.specs.Arranged.{rowFrom, ReadTo, through, HasClusters, Ordered, Within, unworked, arrangedTable, Makeable}
+use Rattle.table.specs.Build.{Making, makingOf, refusalOf, refusedBuild, madeOf, buildTable}
+use Rattle.table.proofs.Laws.Scan.{first-before, first-high}
+use Rattle.table.proofs.Laws.Listing.{breaks, bad-is, repeat-is, rows-length, row-rules, row-facts}
+use Rattle.table.proofs.Laws.Refused.{record-bad, record-repeated, record-none}
+use Rattle.table.proofs.Laws.Through.{through-ext, falling-at, down-through}
+use Rattle.table.proofs.Laws.View.{entries-clusters, entries-table, table-sized, table-blank}
+
+-- ---- refused or built
+
+pub build-of : (l : List ℕ) (d : ℕ) {x : Option Refusal} → refusalOf l d ≡ x → buildTable l d ≡ madeOf l d x
+unfolding buildTable
+build-of l d e = ap (madeOf l d) e
+
+-- what a build sends back tells what it gave
+pub build-only : (l : List ℕ) (d : ℕ) (x y : Built) → makingOf x ≡ buildTable l d → makingOf y ≡ buildTable l d → x ≡ y
+build-only l d x y p q =
+    let same = p ∙ sym q in
+    let answer = sentOf-inj (x .answer) (y .answer) (ap (λ (m : Making). m .sent) same) in
+    ap₂ (λ (a : Answer) (t : Table). record { answer = a; table = t }) answer (ap (λ (m : Making). m .table) same)
+
+-- ---- the rows of an accepted list are worked out
+
+pub record Rows (rs : List Row) : Type 0 where
+  pub some : 1 ≤ length rs
+  pub room : length rs ≤ rowCap
+  pub facts : RowFacts (narrow .taxa) rs
+  pub rules : (r : Row) → Mem r rs → T (keepsRules narrow r)
+
+entries-mem : (t : Table) (n i : ℕ) → i < n → Mem (entryAt t i) (entriesOf t n)
+entries-mem t zero i h = absurd (omega arith)
+entries-mem t (suc n) i h = go (decLe n i) (entries-mem t n i)
+  where
+    go : Dec (n ≤ i) → (i < n → Mem (entryAt t i) (entriesOf t n)) → Mem (entryAt t i) (entriesOf t (suc n))
+    go (yes k) ih = here (let e : i ≡ n = omega arith in ap (entryAt t) e)
+    go (no k) ih = there (ih (omega arith))
+
+map-clusters : (rs : List Row) → map cl (map unworked rs) ≡ clustersOf rs
+map-clusters [] = refl
+map-clusters (r ∷ rs) = ap (λ (cs : List ℕ). r .cluster ∷ cs) (map-clusters rs)
+
+-- the empty cluster is inside every other
+again-all : (F : Row → List (Entry Result) → Result) (rs : List Row) → again F 0 (map unworked rs) ≡ workedFrom F rs
+again-all F [] = refl
+again-all F (r ∷ rs) =
+    ap (λ (b : Bool). againIf F b (unworked r) (again F 0 (map unworked rs))) (T-true (inside 0 (r .cluster)) (zero-inside (r .cluster)))
+    ∙ ap (λ (t : List (Entry Result)). record { row = r; val = F r t } ∷ t) (again-all F rs)
+
+module _ (d : ℕ) (rs : List Row) (k : Rows rs) where
+  abbrev es : List (Entry Result)
+  es = map unworked rs
+
+  abbrev table : Table
+  table = tableOf d es
+
+  count : length es ≡ length rs
+  count = length-map rs unworked
+
+  clusters-are : clustersDown (table .clusters) (length es) ≡ clustersOf rs
+  clusters-are = sym (entries-clusters table (length es)) ∙ ap (map cl) (entries-table d es) ∙ map-clusters rs
+
+  pub again-is : againTable table 0 ≡ tableOf d (builtTable narrow d rs)
+  again-is =
+      ap (tableOf d) (
+      ap₂ (λ (cs : List ℕ) (t : List (Entry Result)). again (workedOut narrow d cs) 0 t) clusters-are (entries-table d es)
+      ∙ again-all (workedOut narrow d (clustersOf rs)) rs
+      ∙ worked-is-built narrow (omega arith) d rs (k .facts))
+
+  rising : Rising (table .clusters) (length es)
+  rising = record { long = omega (arith, table-sized d es (omega (arith, count, k .room)) .clusters, count, k .room); up = up }
+    where
+      falls : Falling (through (λ (c : ℕ). c) (table .clusters) (length es))
+      falls = subst Falling (sym clusters-are ∙ down-through (table .clusters) (length es)) (k .facts .falls)
+
+      up : (i j : ℕ) → i < j → j < length es → getD (table .clusters) i 0 < getD (table .clusters) j 0
+      up i j a b = falling-at (λ (c : ℕ). c) (table .clusters) (length es) falls i j a b
+
+  -- a row of the table is one of the rows, with no results
+  at-row : (i : ℕ) → i < length es → (r : Row) × Mem r rs × (unworked r ≡ entryAt table i)
+  at-row i h = Memᴰ·of-map unworked rs (subst (Mem (entryAt table i)) (entries-table d es) (entries-mem table (length es) i h))
+
+  pub workable : degreeLow ≤ d → d ≤ degreeHigh → Workable table 0
+  workable low high = record {
+    some = omega (arith, count, k .some);
+    capped = omega (arith, count, k .room);
+    sized = table-sized d es (omega (arith, count, k .room));
+    low = low;
+    high = high;
+    rising = rising;
+    rules = λ i h. let q = at-row i h in subst (λ (e : Entry Result). T (keepsRules narrow (e .row))) (q .2) (k .rules (q .0) (q .1));
+    fit = λ i h out. absurd (out (zero-inside (rowAt table i .cluster)));
+    words = λ i h. omega (arith, ap (λ (e : Entry Result). e .val .members) (at-row i h .2));
+    blank = table-blank d es (rowCap - length es);
+  }
+
+-- ---- the records read and in order
+
+pub made-bad : {l : List ℕ} {n : ℕ} {s : Listed} (d : ℕ) → ReadTo l n s → s .read < n
+    → madeOf l d (recordRefusal l n) ≡ refusedBuild (BadRecord (s .read))
+made-bad {l} {n} {s} d read h = ap (madeOf l d) (record-bad l n (s .read) 0 (sym (read .first)) h)
+
+-- all n records of l are read, and s has them; o has them in order, or those before the first repeat
+pub record InOrder (l : List ℕ) (n : ℕ) (s : Listed) (o : Order) : Type 0 where
+  pub read : ReadTo l n s
+  pub whole : n ≤ s .read
+  pub order : Ordered (s .clusters) n o
+
+module _ {l : List ℕ} {n : ℕ} {s : Listed} {o : Order} (d : ℕ) (known : InOrder l n s o) where
+  all-read : s .read ≡ n
+  all-read = omega (arith, known .whole, known .read .first, bad-is l 0 n, first-high (breaks l) 0 n)
+
+  none-bad : badFrom l 0 n ≡ n
+  none-bad = sym (known .read .first) ∙ all-read
+
+  kept : (i : ℕ) → i < n → breaks l i ≡ false
+  kept i h = first-before (breaks l) 0 n i (omega arith) (omega (arith, bad-is l 0 n, none-bad))
+
+  has-clusters : HasClusters (rowIn l) (s .clusters) n
+  has-clusters p h = ap (λ (r : Row). r .cluster) (sym (known .read .rows p (omega (arith, all-read))))
+
+  first-repeat : o .placed ≡ repeatFrom l 0 n
+  first-repeat = known .order .first l has-clusters
+
+  pub made-repeated : o .placed < n → madeOf l d (recordRefusal l n) ≡ refusedBuild (Repeated (o .placed))
+  made-repeated h = ap (madeOf l d) (record-repeated l n n (o .placed) none-bad (omega arith) (sym first-repeat) h)
+
+  module _ (done : n ≤ o .placed) where
+    all-placed : o .placed ≡ n
+    all-placed = omega (arith, first-repeat, repeat-is l 0 n, first-high (repeats l) 0 n)
+
+    none-repeated : repeatFrom l 0 n ≡ n
+    none-repeated = sym first-repeat ∙ all-placed
+
+    once : (i : ℕ) → i < n → repeats l i ≡ false
+    once i h = first-before (repeats l) 0 n i (omega arith) (omega (arith, repeat-is l 0 n, none-repeated))
+
+    pub made-within : n ≤ rowCap → Within o n
+    made-within room = record { room = room; each = known .order .within all-placed }
+
+    as-read : (j : ℕ) → j < n → rowFrom s (getD (o .places) j 0) ≡ rowIn l (getD (o .places) j 0)
+    as-read j h = known .read .rows (getD (o .places) j 0) (omega (arith, all-read, known .order .within all-placed j h))
+
+    arranged-is : arrangedTable s o n d ≡ tableOf d (map unworked (rowsTo l n))
+    arranged-is =
+        ap (λ (rs : List Row). tableOf d (map unworked rs))
+        (through-ext (rowFrom s) (rowIn l) (o .places) n as-read ∙ known .order .rows all-placed l has-clusters)
+
+    module _ (byte : (i : ℕ) → getD l i 0 < byteValues) (ready : Makeable l n d) where
+      rows : Rows (rowsTo l n)
+      rows = record {
+        some = omega (arith, rows-length l n, ready .some);
+        room = omega (arith, rows-length l n, ready .room);
+        facts = row-facts l byte n kept once;
+        rules = row-rules l byte n kept;
+      }
+
+      pub made-workable : Workable (arrangedTable s o n d) 0
+      made-workable = rw arranged-is (workable d (rowsTo l n) rows (ready .low) (ready .high))
+
+      accepted : recordRefusal l n ≡ none
+      accepted = record-none l n n n none-bad (omega arith) none-repeated (omega arith)
+
+      -- the list has n records
+      rows-are : rowsTo l n ≡ rowsOf l
+      rows-are = ap (rowsTo l) (let e : n ≡ length l / recordBytes = omega (arith, ready .whole) in e)
+
+      pub made-accepted : (t : Table) → t ≡ againTable (arrangedTable s o n d) 0
+          → record { sent = sentOf (Done 0); table = t } ≡ madeOf l d (recordRefusal l n)
+      made-accepted t e =
+          let built = e ∙ ap (λ (u : Table). againTable u 0) arranged-is ∙ again-is d (rowsTo l n) rows in
+          let all-rows = built ∙ ap (λ (rs : List Row). tableOf d (builtTable narrow d rs)) rows-are in
+          ap (λ (u : Table). record { sent = sentOf (Done 0); table = u }) all-rows ∙ ap (madeOf l d) (sym accepted)

@@ -1,0 +1,32 @@
+-- Laws of rescoring: its four outcomes, in the order of the refusals.
+--     rescore-unfit, rescore-no-row, rescore-bad-score, rescore-done
+-- Assumes nothing.
+use mathlib.Core.Path.{_≡_}
+use mathlib.Core.Bool.{true, false}
+use Prim.Native.Nat.{ℕ}
+use lib.IntN.{ℤ}
+use Rattle.cluster.specs.declared.refusal.Answer.the-variants.{Done, Refused}
+use Rattle.cluster.specs.declared.refusal.Refusal.the-variants.{Unfit, NoRow, BadScore}
+use Rattle.table.specs.declared.table.Table.{Table}
+use Rattle.table.specs.Fit.{isFit}
+use Rattle.table.specs.Rescore.{changingOf, isScore, hasRow, newTable, rescoreTable}
+
+module _ (t : Table) (c : ℕ) (z : ℤ) (s : ℕ) where
+  pub rescore-unfit : isFit t ≡ false → changingOf (record { answer = Refused Unfit; table = t }) ≡ rescoreTable t c z s
+  unfolding rescoreTable
+  rescore-unfit a = rw a
+
+  module _ (a : isFit t ≡ true) where
+    pub rescore-no-row : hasRow t c ≡ false → changingOf (record { answer = Refused NoRow; table = t }) ≡ rescoreTable t c z s
+    unfolding rescoreTable
+    rescore-no-row b = rw (a, b)
+
+    module _ (b : hasRow t c ≡ true) where
+      pub rescore-bad-score : isScore z s ≡ false → changingOf (record { answer = Refused BadScore; table = t }) ≡ rescoreTable t c z s
+      unfolding rescoreTable
+      rescore-bad-score e = rw (a, b, e)
+
+      pub rescore-done : isScore z s ≡ true → (u : Table) → u ≡ newTable t c z s
+          → changingOf (record { answer = Done 0; table = u }) ≡ rescoreTable t c z s
+      unfolding rescoreTable
+      rescore-done e u q = rw (a, b, e, q)

@@ -1,0 +1,60 @@
+-- What a search may count on, put to use: its rows as parts fall and keep what sums keep, and few tuples are counted.
+--     highest-fits             the highest taxon of a word, as a place among the starts
+--     taxon-fits               so for what is searched for
+--     searched-fall            the rows, as parts, fall
+--     topOf, rows-below        a number above all rows
+--     searched-keep            the scored ones keep what sums keep
+--     searched-few             the sum over the covers counts fewer tuples than a word has values
+-- Assumes nothing.
+use mathlib.Core.Path.{subst}
+use mathlib.Core.List.{List, map, List·Memᴰ as Mem}
+use Prim.Native.Nat.{ℕ, suc, _^_, _≤_, _<_}
+use native.Mathlib.Decide.{decLt}
+use native.Mathlib.Nat.{pow-le-pow-left, pow-le-pow-right}
+use native.Mathlib.Omega.{arith}
+use lib.Dec.{T}
+use lib.ListN.{getD}
+use lib.Pow.{pow-mono}
+use Rattle.laws.specs.Cluster.{highest}
+use Rattle.laws.proofs.Descends.{Descends}
+use Rattle.laws.proofs.Taxa.{highest-le}
+use Rattle.trees.specs.Rows.{Entry, cl, sc}
+use Rattle.trees.proofs.Capped.{Res}
+use Rattle.table.specs.View.{wordValues}
+use Rattle.table.specs.Searched.{Columns, partsOf, sumCovers, Searchable}
+use Rattle.table.proofs.Laws.Searched.{parts-length}
+use Rattle.table.proofs.CoverSums.{sumCovers-few}
+use Rattle.table.proofs.Held.{Part}
+use Rattle.table.proofs.Readable.{parts-fall, parts-keep}
+
+pub highest-fits : (c : ℕ) → 0 < c → c < wordValues → highest c < 64
+highest-fits c p h = go (decLt (highest c) 64)
+  where
+    go : Dec (highest c < 64) → highest c < 64
+    go (yes l) = l
+    go (no f) = absurd (omega (arith, highest-le c p, pow-mono {i = 64} {j = highest c} (omega arith)))
+
+-- above every row below the taxon after R's highest
+abbrev pub topOf : ℕ → ℕ
+topOf R = 2 ^ suc (highest R)
+
+module _ (limit : ℕ) (k : Columns) (starts : List ℕ) (end R : ℕ) (s : Searchable limit k starts end R) where
+  pub taxon-fits : highest R < 64
+  taxon-fits = highest-fits R (s .some) (s .small)
+
+  pub searched-fall : Descends (map cl (partsOf k end))
+  searched-fall = parts-fall limit k (s .readable .cs) end (s .readable .sound)
+
+  pub rows-below : (j : ℕ) → j < end → getD (k .clusters) j 0 < topOf R
+  rows-below j l = s .begins .each (suc (highest R)) taxon-fits .less j (omega (arith, s .reach))
+
+  pub searched-keep : (e : Entry Res) → Mem e (partsOf k end) → T (sc e) → Part (s .readable .cs) (topOf R) e
+  searched-keep = parts-keep limit k (s .readable .cs) end (s .readable .sound) (topOf R) rows-below
+
+  pub searched-few : (left : ℕ) → left ≤ 4 → sumCovers left R (partsOf k end) .0 < wordValues
+  searched-few left h =
+      let rows : suc end ^ left ≤ 129 ^ left = pow-le-pow-left (omega (arith, s .within, s .capped)) left in
+      let tuples : 129 ^ left ≤ 129 ^ 4 = pow-le-pow-right (omega arith) h in
+      let all = sumCovers-few (s .readable .cs) (topOf R) (partsOf k end) searched-keep left R in
+      let counted = subst (λ (n : ℕ). sumCovers left R (partsOf k end) .0 ≤ suc n ^ left) (parts-length k end) all in
+      omega arith

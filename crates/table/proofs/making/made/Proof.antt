@@ -1,0 +1,84 @@
+-- `table::making::made` meets its contract: refusal 5 where not all records are read, 6 where not all are placed, and else the rows in
+-- order, worked out. Assumes nothing.
+use borrow.Author.Needs.{needs}
+use mathlib.Core.Path.{sym, ap, _∙_}
+use Prim.Native.Nat.{ℕ, _<_}
+use denote.Ref.{now}
+use lib.ListN.{getD}
+use mir.Facts.{fits-lt-pow}
+use Rattle.cluster.specs.Bytes.{byteValues}
+use Rattle.table.specs.declared.table.Table.{Table}
+use Rattle.table.specs.Working.{againTable}
+use Rattle.table.proofs.Laws.Build.{InOrder, made-bad, made-repeated, made-within, made-workable, made-accepted}
+use Rattle.table.proofs.making.made.Statement.{statement}
+use Rattle.table.proofs.making.made.Tie as tie
+
+-- what is read of a slice of bytes is bytes
+bytes : (c : tie.After-read-all) → (i : ℕ) → getD (now (c .before .before .args .list)) i 0 < byteValues
+bytes c i = fits-lt-pow (c .before .shared-slice-known .given i)
+
+-- past the first branch all records are read
+in-order : (c : tie.After-ordered)
+    → let at-read = c .before .before .before .before in
+    let start = at-read .before .before in
+    InOrder (now (start .args .list)) (start .args .n) (at-read .read-all .result) (c .ordered .result)
+in-order c =
+    let at-whole = c .before .before .before in
+    record { read = at-whole .before .read-all .ensures; whole = at-whole .if1 .left; order = c .ordered .ensures }
+
+read-all-requires : tie.Need-read-all-requires
+read-all-requires c κs = search needs
+
+refused-requires : tie.Need-refused-requires
+refused-requires c κs = search needs
+
+returns : tie.Need-returns
+returns c =
+    let at-read = c .before .before in
+    c .refused .ensures ∙ sym (made-bad (at-read .before .before .args .degree) (at-read .read-all .ensures) (c .before .if1 .taken))
+
+ordered-requires : tie.Need-ordered-requires
+ordered-requires c κs = search needs
+
+refused-requires-2 : tie.Need-refused-requires-2
+refused-requires-2 c κs = search needs
+
+returns-2 : tie.Need-returns-2
+returns-2 c = c .refused2 .ensures ∙ sym (made-repeated _ (in-order (c .before .before)) (c .before .if2 .taken))
+
+arranged-requires : tie.Need-arranged-requires
+arranged-requires c κs =
+    let at-read = c .before .before .before .before .before in
+    let start = at-read .before .before in
+    made-within (start .args .degree) (in-order (c .before)) (c .if2 .left) (start .pre .room)
+
+again-requires : tie.Need-again-requires
+again-requires c κs =
+    let at-ordered = c .before .before in
+    let at-read = at-ordered .before .before .before .before in
+    let start = at-read .before .before in
+    rw (c .arranged .ensures)
+    (made-workable (start .args .degree) (in-order at-ordered) (c .before .if2 .left) (bytes at-read) (start .pre))
+
+returns-3 : tie.Need-returns-3
+returns-3 c =
+    let at-ordered = c .before .before .before in
+    let at-read = at-ordered .before .before .before .before in
+    let start = at-read .before .before in
+    let worked = c .again .ensures ∙ ap (λ (t : Table). againTable t 0) (c .before .arranged .ensures) in
+    made-accepted (start .args .degree) (in-order at-ordered) (c .before .before .if2 .left) (bytes at-read) (start .pre)
+    (c .again .result) worked
+
+pub made-spec : {M : Type 1} → statement M
+made-spec =
+    tie.close
+    (tie.spec
+    read-all-requires
+    refused-requires
+    returns
+    ordered-requires
+    refused-requires-2
+    returns-2
+    arranged-requires
+    again-requires
+    returns-3)

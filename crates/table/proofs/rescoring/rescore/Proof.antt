@@ -1,0 +1,140 @@
+-- `table::rescoring::rescore` meets its contract: each refusal in its order, and else the table with the new score, worked out again.
+-- Assumes nothing.
+use mathlib.Core.Path.{_≡_, sym, ap, _∙_}
+use mathlib.Core.Bool.{true, false}
+use Prim.Native.Nat.{ℕ, _≤_, _<_}
+use native.Mathlib.Omega.{arith}
+use borrow.Author.Needs.{needs}
+use borrow.Author.Tests.{not-true, not-false}
+use lib.Dec.{T}
+use lib.IntN.{ℤ}
+use lib.ListN.{getD}
+use mir.Facts.{toZ-ofZ}
+use mir.Syntax.{w64}
+use mir.Val.{Fits}
+use Rattle.laws.proofs.Tests.{true-T}
+use Rattle.table.specs.View.{wordValues}
+use Rattle.table.specs.Fit.{isFit}
+use Rattle.table.specs.Rescore.{isScore, hasRow}
+use Rattle.table.specs.Working.{Sized}
+use Rattle.table.proofs.Laws.Fit.{FitTable, isFit→}
+use Rattle.table.proofs.Laws.Rescore.{rescore-unfit, rescore-no-row, rescore-bad-score, rescore-done}
+use Rattle.table.proofs.Scored.{row-missing, row-listed, row-found, score-workable, score-again}
+use Rattle.table.proofs.rescoring.rescore.Statement.{statement}
+use Rattle.table.proofs.rescoring.rescore.Tie as tie
+
+-- ---- the table given
+
+sized : (s : tie.Start) → Sized (s .args .given)
+sized s = search needs
+
+words : (s : tie.Start) (j : ℕ) → getD (s .args .given .«members_low») j 0 < wordValues
+words s j = let f : Fits w64 (getD (s .args .given .«members_low») j 0) = search needs in f .fits
+
+fit : (c : tie.Else1) → isFit (c .before .before .args .given) ≡ true
+fit c = sym (c .before .is-fit .ensures) ∙ not-false _ (c .if1 .left)
+
+capped : (c : tie.Else1) → c .before .before .args .given .rows ≤ 128
+capped c = isFit→ (c .before .before .args .given) (true-T (fit c)) .capped
+
+-- ---- the row of the cluster
+
+abbrev fits-at : tie.After-struct-known → tie.Else1
+fits-at c = c .before .before
+
+abbrev start : tie.After-struct-known → tie.Start
+start c = fits-at c .before .before
+
+listed : (c : tie.Else2) → hasRow (start (c .before) .args .given) (start (c .before) .args .cluster) ≡ true
+listed c =
+    let s = start (c .before) in
+    row-listed (s .args .given) (capped (fits-at (c .before))) (s .args .cluster) _ (c .before .before .row-of .ensures) (c .if2 .left)
+
+room : (c : tie.Else3) → c .before .before .before .before .row-of .result < 128
+room c = let at = c .before .before in omega (arith, at .if2 .left, capped (fits-at (at .before)))
+
+-- ---- the new score
+
+score : (c : tie.After-is-score) → c .is-score .result ≡ isScore (start (c .before .before) .args .weight) (start (c .before .before) .args .state)
+score c =
+    let s = start (c .before .before) in
+    c .is-score .ensures ∙ ap (λ (z : ℤ). isScore z (s .args .state)) (toZ-ofZ (s .fits .weight))
+
+-- ---- needs
+
+is-fit-requires : tie.Need-is-fit-requires
+is-fit-requires c κs = search needs
+
+returns : tie.Need-returns
+returns c =
+    let s = c .before .before in
+    rescore-unfit (s .args .given) (s .args .cluster) (s .args .weight) (s .args .state)
+    (sym (c .before .is-fit .ensures) ∙ not-true _ (c .if1 .taken))
+
+row-of-requires : tie.Need-row-of-requires
+row-of-requires c κs = search needs
+
+returns-2 : tie.Need-returns-2
+returns-2 c =
+    let s = start (c .before) in
+    let f = fits-at (c .before) in
+    rescore-no-row (s .args .given) (s .args .cluster) (s .args .weight) (s .args .state) (fit f)
+    (row-missing (s .args .given) (capped f) (s .args .cluster) _ (c .before .before .row-of .ensures) (c .if2 .taken))
+
+is-score-requires : tie.Need-is-score-requires
+is-score-requires c κs = search needs
+
+returns-3 : tie.Need-returns-3
+returns-3 c =
+    let at = c .before .before in
+    let s = start (at .before) in
+    rescore-bad-score (s .args .given) (s .args .cluster) (s .args .weight) (s .args .state) (fit (fits-at (at .before))) (listed at)
+    (sym (score (c .before)) ∙ not-true _ (c .if3 .taken))
+
+mul-weight : tie.Need-mul-weight
+mul-weight c = omega (arith, room c)
+
+element-set-from-weight : tie.Need-element-set-from-weight
+element-set-from-weight c = room c
+
+element-write-t : tie.Need-element-write-t
+element-write-t c = room c
+
+again-requires : tie.Need-again-requires
+again-requires c κs =
+    let at = c .before .before in
+    let s = start (at .before) in
+    let f = fits-at (at .before) in
+    let row = at .before .before .row-of in
+    let found = row-found (s .args .given) (capped f) (s .args .cluster) _ (row .ensures) (at .if2 .left) in
+    rw (toZ-ofZ (s .fits .weight))
+    (score-workable (s .args .given) (s .args .cluster) (s .args .weight) (s .args .state) (sized s) (true-T (fit f)) (row .result) (at .if2 .left)
+    found (true-T (sym (score (c .before)) ∙ not-false _ (c .if3 .left))) (λ j h. words s j))
+
+returns-4 : tie.Need-returns-4
+returns-4 c =
+    let at = c .before .before .before in
+    let s = start (at .before) in
+    let f = fits-at (at .before) in
+    let row = at .before .before .row-of in
+    let found = row-found (s .args .given) (capped f) (s .args .cluster) _ (row .ensures) (at .if2 .left) in
+    rescore-done (s .args .given) (s .args .cluster) (s .args .weight) (s .args .state) (fit f) (listed at)
+    (sym (score (c .before .before)) ∙ not-false _ (c .before .if3 .left)) (c .again .result)
+    (rw (toZ-ofZ (s .fits .weight)) at (c .again .ensures)
+    ∙ score-again (s .args .given) (s .args .cluster) (s .args .weight) (s .args .state) (sized s) (true-T (fit f)) (row .result) (at .if2 .left) found)
+
+pub rescore-spec : {M : Type 1} → statement M
+rescore-spec =
+    tie.close
+    (tie.spec
+    is-fit-requires
+    returns
+    row-of-requires
+    returns-2
+    is-score-requires
+    returns-3
+    mul-weight
+    element-set-from-weight
+    element-write-t
+    again-requires
+    returns-4)

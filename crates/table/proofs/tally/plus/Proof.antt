@@ -1,0 +1,30 @@
+-- `table::tally::plus` meets its contract: the best of the first, or of the second, with the count of both. Assumes nothing.
+use mathlib.Core.Path.{sym, _∙_}
+use borrow.Author.Needs.{needs}
+use Rattle.table.proofs.Laws.Tally.{plusTally-first, plusTally-second}
+use Rattle.table.proofs.tally.plus.Statement.{statement}
+use Rattle.table.proofs.tally.plus.Tie as tie
+
+add-tuples : tie.Need-add-tuples
+add-tuples c = search needs
+
+plus-counts-requires : tie.Need-plus-counts-requires
+plus-counts-requires c κs = search needs
+
+keeps-first-requires : tie.Need-keeps-first-requires
+keeps-first-requires c κs = search needs
+
+returns : tie.Need-returns
+returns c =
+    let counted = c .before .before in
+    let a = counted .before .before .before .args in
+    plusTally-first (a .limit) (a .a) (a .b) _ (counted .plus-counts .ensures) (sym (c .before .keeps-first .ensures) ∙ c .if1 .taken)
+
+returns-2 : tie.Need-returns-2
+returns-2 c =
+    let counted = c .before .before in
+    let a = counted .before .before .before .args in
+    plusTally-second (a .limit) (a .a) (a .b) _ (counted .plus-counts .ensures) (sym (c .before .keeps-first .ensures) ∙ c .if1 .left)
+
+pub plus-spec : {M : Type 1} → statement M
+plus-spec = tie.close (tie.spec add-tuples plus-counts-requires keeps-first-requires returns returns-2)

@@ -1,0 +1,57 @@
+-- `table::tally::times_counts` meets its contract: none, a marked count, a product past the limit, or the product. Assumes nothing.
+use mathlib.Core.Path.{sym}
+use native.Mathlib.Omega.{arith}
+use borrow.Author.Needs.{needs}
+use Rattle.table.proofs.Laws.Tally.{timesCounts-none-l, timesCounts-none-r, timesCounts-marked-l, timesCounts-marked-r}
+use Rattle.table.proofs.Laws.Tally.{timesCounts-past, timesCounts-exact, product-le}
+use Rattle.table.proofs.tally.times_counts.Statement.{statement}
+use Rattle.table.proofs.tally.times_counts.Tie as tie
+
+returns : tie.Need-returns
+returns c = sym (timesCounts-none-l _ _ _ (c .if1 .taken))
+
+returns-2 : tie.Need-returns-2
+returns-2 c = sym (timesCounts-none-r _ _ _ (c .before .before .if1 .left) (c .if2 .taken))
+
+returns-3 : tie.Need-returns-3
+returns-3 c =
+    let second = c .before .before in
+    sym (timesCounts-marked-l _ _ _ (second .before .before .if1 .left) (second .if2 .left) (c .if3 .taken))
+
+returns-4 : tie.Need-returns-4
+returns-4 c =
+    let third = c .before .before in
+    let second = third .before .before in
+    sym (timesCounts-marked-r _ _ _ (second .before .before .if1 .left) (second .if2 .left) (third .if3 .left) (c .if4 .taken))
+
+div-if5 : tie.Need-div-if5
+div-if5 c = search needs
+
+returns-5 : tie.Need-returns-5
+returns-5 c =
+    let fourth = c .before .before .before in
+    let third = fourth .before .before in
+    let second = third .before .before in
+    sym (timesCounts-past _ _ _ (second .before .before .if1 .left) (second .if2 .left) (third .if3 .left) (fourth .if4 .left)
+    (c .if5 .taken))
+
+mul-t5 : tie.Need-mul-t5
+mul-t5 c =
+    let fifth = c .before .before in
+    let third = fifth .before .before .before .before .before in
+    let second = third .before .before in
+    let start = second .before .before .before .before in
+    let most = start .args .limit in
+    record { fits = omega (arith, product-le most _ _ (second .if2 .left) (fifth .if5 .left), start .fits .limit .fits) }
+
+returns-6 : tie.Need-returns-6
+returns-6 c =
+    let fifth = c .before .before in
+    let fourth = fifth .before .before .before in
+    let third = fourth .before .before in
+    let second = third .before .before in
+    sym (timesCounts-exact _ _ _ (second .before .before .if1 .left) (second .if2 .left) (third .if3 .left) (fourth .if4 .left)
+    (fifth .if5 .left))
+
+pub times-counts-spec : {M : Type 1} → statement M
+times-counts-spec = tie.close (tie.spec returns returns-2 returns-3 returns-4 div-if5 returns-5 mul-t5 returns-6)

@@ -1,0 +1,178 @@
+-- `table::working::again` meets its contract. The invariant: the first i rows are the given ones worked out again, and the rest is as
+-- given. The measure is the rows left. Assumes nothing.
+use mathlib.Core.Path.{_≡_, sym, ap, _∙_}
+use mathlib.Core.Logic.{⊎-elim}
+use Prim.Native.Nat.{_-_, _<_}
+use native.Mathlib.Omega.{arith}
+use borrow.Author.Needs.{needs}
+use lib.IntN.{ℤ, pos}
+use lib.ListN.{getD}
+use mir.Facts.{toZ-ofZ}
+use mir.Syntax.{w32, w64}
+use mir.Val.{SFits}
+use Rattle.table.specs.Searched.{columnsOf}
+use Rattle.table.specs.Tally.{fieldsTally}
+use Rattle.table.specs.Working.{workedRow}
+use Rattle.table.proofs.AgainLoop.{Partly, partly-start, partly-skip, partly-store, partly-end, ready-row, weight-fits}
+use Rattle.table.proofs.working.again.Statement.{statement}
+use Rattle.table.proofs.working.again.Tie as tie
+
+abbrev Inv-loop : tie.InvT-loop
+Inv-loop cluster n degree starts t₀ i₀ t i = Partly t₀ cluster t i
+
+abbrev μ-loop : tie.MeasureT-loop
+μ-loop cluster n degree starts t₀ i₀ t i = n - i
+
+-- ---- places
+
+abbrev start : tie.At-loop Inv-loop μ-loop → tie.Start Inv-loop μ-loop
+start c = c .before .before .before .before .before
+
+-- the row that is worked out
+abbrev in-loop : tie.Then1 Inv-loop μ-loop → tie.In-loop Inv-loop μ-loop
+in-loop c = c .before .before .before
+
+abbrev row : tie.After-starts Inv-loop μ-loop → tie.Then1 Inv-loop μ-loop
+row c =
+    let fields = c .before .before .before .before .before .before .before .before in
+    fields .before .before .before .before .before .before .before .before .before
+
+room : (c : tie.In-loop Inv-loop μ-loop) → c .before .loop .i < 128
+room c = omega (arith, c .loop-test .taken, start (c .before) .pre .capped)
+
+narrow : (c : tie.In-loop Inv-loop μ-loop) → SFits w32 (getD (c .before .loop .t .weights) (c .before .loop .i) (pos 0))
+narrow c =
+    let at-loop = c .before in
+    let s = start at-loop in
+    weight-fits (s .args .t1) (s .args .cluster) (s .pre) (at-loop .loop .t) (at-loop .loop .i) (at-loop .loop .inv) (c .loop-test .taken)
+
+-- ---- needs
+
+starts-of-requires : tie.Need-starts-of-requires Inv-loop μ-loop
+starts-of-requires c κs = c .before .before .before .pre .rising
+
+loop-holds : tie.Need-loop-holds Inv-loop μ-loop
+loop-holds c = let start = c .before .before .before .before in partly-start (start .args .t1) (start .args .cluster) (start .pre)
+
+mul-is-inside : tie.Need-mul-is-inside Inv-loop μ-loop
+mul-is-inside c = omega (arith, room c)
+
+element-copy-out-is-inside : tie.Need-element-copy-out-is-inside Inv-loop μ-loop
+element-copy-out-is-inside c = room c
+
+is-inside-requires : tie.Need-is-inside-requires Inv-loop μ-loop
+is-inside-requires c κs = tt
+
+mul-weight : tie.Need-mul-weight Inv-loop μ-loop
+mul-weight c = omega (arith, room (in-loop c))
+
+element-copy-out-weight : tie.Need-element-copy-out-weight Inv-loop μ-loop
+element-copy-out-weight c = room (in-loop c)
+
+slice-aggregate-worked : tie.Need-slice-aggregate-worked Inv-loop μ-loop
+slice-aggregate-worked c = search needs
+
+worked-requires : tie.Need-worked-requires Inv-loop μ-loop
+worked-requires c κs =
+    let inside = in-loop (row c) in
+    let at-loop = inside .before in
+    let s = start at-loop in
+    let t = at-loop .loop .t in
+    let i = at-loop .loop .i in
+    rw (toZ-ofZ (narrow inside)) (ready-row (s .args .t1) (s .args .cluster) (s .pre) t i (at-loop .loop .inv) _ (inside .loop-test .taken) (at-loop .before .starts-of .ensures))
+
+mul-t : tie.Need-mul-t Inv-loop μ-loop
+mul-t c = omega (arith, room (in-loop (row (c .before .before))))
+
+element-write-t : tie.Need-element-write-t Inv-loop μ-loop
+element-write-t c = room (in-loop (row (c .before .before)))
+
+mul-t-2 : tie.Need-mul-t-2 Inv-loop μ-loop
+mul-t-2 c = omega (arith, room (in-loop (row (c .before .before))))
+
+element-write-t-2 : tie.Need-element-write-t-2 Inv-loop μ-loop
+element-write-t-2 c = room (in-loop (row (c .before .before)))
+
+element-write-t-3 : tie.Need-element-write-t-3 Inv-loop μ-loop
+element-write-t-3 c = room (in-loop (row (c .before .before)))
+
+mul-best : tie.Need-mul-best Inv-loop μ-loop
+mul-best c = omega (arith, room (in-loop (row (c .before .before))))
+
+element-set-from-best : tie.Need-element-set-from-best Inv-loop μ-loop
+element-set-from-best c = room (in-loop (row (c .before .before)))
+
+mul-t-3 : tie.Need-mul-t-3 Inv-loop μ-loop
+mul-t-3 c = omega (arith, room (in-loop (row (c .before .before))))
+
+element-write-t-4 : tie.Need-element-write-t-4 Inv-loop μ-loop
+element-write-t-4 c = room (in-loop (row (c .before .before)))
+
+mul-t-4 : tie.Need-mul-t-4 Inv-loop μ-loop
+mul-t-4 c = omega (arith, room (in-loop (row (c .before .before))))
+
+element-write-t-5 : tie.Need-element-write-t-5 Inv-loop μ-loop
+element-write-t-5 c = room (in-loop (row (c .before .before)))
+
+add-i : tie.Need-add-i Inv-loop μ-loop
+add-i c = omega (arith, room (c .before .before .before))
+
+loop-less : tie.Need-loop-less Inv-loop μ-loop
+loop-less c = let inside = c .before .before .before in omega (arith, inside .loop-test .taken)
+
+loop-again : tie.Need-loop-again Inv-loop μ-loop
+loop-again c =
+    let inside = c .before .before .before in
+    let at-loop = inside .before in
+    let s = start at-loop in
+    let t = at-loop .loop .t in
+    let i = at-loop .loop .i in
+    let test = c .before .is-inside .ensures in
+    ⊎-elim
+    (λ w.
+    let best : SFits w64 (w .18 .result .best) = record { sfits = w .19 .given .1 .1 .1 .0 .1 } in
+    partly-store (s .args .t1) (s .args .cluster) (s .pre) t i (at-loop .loop .inv) (w .18 .result) (inside .loop-test .taken)
+    (sym test ∙ w .0 .taken)
+    (w .18 .ensures ∙ ap (λ (z : ℤ). fieldsTally (workedRow (columnsOf t) z i (s .args .t1 .degree))) (toZ-ofZ (narrow inside)))
+    _ (toZ-ofZ best) (c .if1 .t) (w .20))
+    (λ w.
+    partly-skip (s .args .t1) (s .args .cluster) (s .pre) t (c .if1 .t) i (at-loop .loop .inv) (inside .loop-test .taken)
+    (sym test ∙ w .0 .left) (w .1))
+    (c .if1 .came)
+
+returns : tie.Need-returns Inv-loop μ-loop
+returns c =
+    let at-loop = c .before in
+    let s = start at-loop in
+    partly-end (s .args .t1) (s .args .cluster) (s .pre) (at-loop .loop .t) (at-loop .loop .i) (at-loop .loop .inv) (c .loop-test .left)
+
+pub again-spec : {M : Type 1} → statement M
+again-spec =
+    tie.close
+    (tie.spec
+    Inv-loop
+    μ-loop
+    starts-of-requires
+    loop-holds
+    mul-is-inside
+    element-copy-out-is-inside
+    is-inside-requires
+    mul-weight
+    element-copy-out-weight
+    slice-aggregate-worked
+    worked-requires
+    mul-t
+    element-write-t
+    mul-t-2
+    element-write-t-2
+    element-write-t-3
+    mul-best
+    element-set-from-best
+    mul-t-3
+    element-write-t-4
+    mul-t-4
+    element-write-t-5
+    add-i
+    loop-less
+    loop-again
+    returns)

@@ -1,0 +1,115 @@
+-- `table::working::worked` meets its contract: an unscored row and a one-taxon row end at once, and any other is the row over what the
+-- search of its tuples adds up. Assumes nothing.
+use mathlib.Core.Path.{sym, ap, _∙_}
+use native.Mathlib.Omega.{arith}
+use borrow.Author.Needs.{needs}
+use lib.IntN.{ℤ}
+use mir.Facts.{toZ-ofZ}
+use mir.Syntax.{w32}
+use mir.Val.{SFits}
+use Rattle.table.specs.Searched.{Columns, columns}
+use Rattle.table.specs.Tally.{ownTally}
+use Rattle.table.proofs.WorkedRow.{searchable, worked-unscored, worked-single, worked-searched, under-fits}
+use Rattle.table.proofs.working.worked.Statement.{statement}
+use Rattle.table.proofs.working.worked.Tie as tie
+
+-- ---- places
+
+abbrev start : tie.After-shared-slice-known8 → tie.Start
+start c = c .before .before .before .before .before .before .before .before
+
+abbrev columnsAt : tie.Start → Columns
+columnsAt s =
+    columns (s .args .clusters .now) (s .args .states .now) (s .args .counts .now) (s .args .marks .now) (s .args .bests .now)
+    (s .args .lows .now) (s .args .highs .now)
+
+narrow : (s : tie.Start) → SFits w32 (s .args .weight)
+narrow s = search needs
+
+-- ---- needs
+
+shared-slice-read-if1 : tie.Need-shared-slice-read-if1
+shared-slice-read-if1 c = search needs
+
+none-requires : tie.Need-none-requires
+none-requires c κs = search needs
+
+returns : tie.Need-returns
+returns c =
+    let s = start (c .before .before) in
+    c .none .ensures
+    ∙ worked-unscored (columnsAt s) (s .args .starts .now) (s .args .weight) (s .args .i) (s .args .degree) (s .pre) (c .before .if1 .taken)
+
+mul-c : tie.Need-mul-c
+mul-c c = search needs
+
+shared-slice-read-c : tie.Need-shared-slice-read-c
+shared-slice-read-c c = search needs
+
+is-single-requires : tie.Need-is-single-requires
+is-single-requires c κs = search needs
+
+own-requires : tie.Need-own-requires
+own-requires c κs = search needs
+
+returns-2 : tie.Need-returns-2
+returns-2 c =
+    let single = c .before .before in
+    let scored = single .before .before in
+    let s = start (scored .before) in
+    c .own .ensures
+    ∙ ap (λ (z : ℤ). ownTally 0 z (s .args .i)) (toZ-ofZ (narrow s))
+    ∙ worked-single (columnsAt s) (s .args .starts .now) (s .args .weight) (s .args .i) (s .args .degree) (s .pre) (scored .if1 .left)
+    (sym (single .is-single .ensures) ∙ c .before .if2 .taken)
+
+sub-search : tie.Need-sub-search
+sub-search c = search needs
+
+search-requires : tie.Need-search-requires
+search-requires c κs =
+    let scored = c .before .before .before in
+    let s = start (scored .before) in (
+      searchable (columnsAt s) (s .args .starts .now) (s .args .weight) (s .args .i) (s .args .degree) (s .pre),
+      (omega (arith, s .pre .low), omega (arith, s .pre .high)),
+    )
+
+own-requires-2 : tie.Need-own-requires-2
+own-requires-2 c κs = search needs
+
+under-requires : tie.Need-under-requires
+under-requires c κs =
+    let found = c .before in
+    let scored = found .before .before .before .before in
+    let s = start (scored .before) in
+    under-fits (columnsAt s) (s .args .starts .now) (s .args .weight) (s .args .i) (s .args .degree) (s .pre) _ _
+    (c .own2 .ensures ∙ ap (λ (z : ℤ). ownTally 1 z (s .args .i)) (toZ-ofZ (narrow s))) (found .search .ensures)
+
+returns-3 : tie.Need-returns-3
+returns-3 c =
+    let own = c .before in
+    let found = own .before in
+    let many = found .before in
+    let single = many .before in
+    let scored = single .before .before in
+    let s = start (scored .before) in
+    worked-searched (columnsAt s) (s .args .starts .now) (s .args .weight) (s .args .i) (s .args .degree) (s .pre) _ _ _ (scored .if1 .left)
+    (sym (single .is-single .ensures) ∙ many .if2 .left) (own .own2 .ensures ∙ ap (λ (z : ℤ). ownTally 1 z (s .args .i)) (toZ-ofZ (narrow s)))
+    (found .search .ensures) (c .under .ensures)
+
+pub worked-spec : {M : Type 1} → statement M
+worked-spec =
+    tie.close
+    (tie.spec
+    shared-slice-read-if1
+    none-requires
+    returns
+    mul-c
+    shared-slice-read-c
+    is-single-requires
+    own-requires
+    returns-2
+    sub-search
+    search-requires
+    own-requires-2
+    under-requires
+    returns-3)

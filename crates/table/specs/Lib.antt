@@ -1,0 +1,20 @@
+-- What the contracts of `table` cite. Read in this order.
+-- a table as rows with their results, and back
+pub mod View
+-- what a fit table is
+pub mod Fit
+-- the rows that a list of records holds, and its refusals
+pub mod Listing
+-- building
+pub mod Build
+-- rescoring
+pub mod Rescore
+-- looking up rows
+pub mod Rows
+-- what the private functions cite: tallies, and what the search may count on
+pub mod Tally
+pub mod Searched
+pub mod Working
+-- what the private functions cite: the tests of fitness
+pub mod Fitness
+pub mod Arranged

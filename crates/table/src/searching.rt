@@ -1,0 +1,185 @@
+// The search of tuples. The next child holds the highest taxon left, so it is one of a run of rows; the last child is looked up; children
+// left fall. Cites `specs/Searched.antt`.
+//     place_below     how many of the first rows have a smaller cluster, by bisection
+//     starts_of       where the rows of each highest taxon start
+//     part            a row as one part of a tuple
+//     last            the one cover of a cluster by one row
+//     search          the sum over the covers of a cluster
+use crate::limits::SCORED;
+use crate::tally::Tally;
+use crate::tally::none;
+use crate::tally::plus;
+use crate::tally::under;
+use cluster::highest;
+use cluster::is_inside;
+ghost use mathlib.Core.Path.{_≡_};
+ghost use mathlib.Core.List.{[]};
+ghost use Prim.Native.Nat.{_≤_, _<_};
+ghost use lib.ListN.{length};
+ghost use Rattle.table.specs.Tally.{tallyOf};
+ghost use Rattle.table.specs.Searched.{columns, partTally, partsOf, sumCovers, Rising, Below, Starts, Readable, Searchable};
+
+// How many of the first `n` rows have a smaller cluster than `value`.
+pub(crate) fn place_below(clusters: &[u64], n: usize, value: u64) -> usize
+    requires { ⌜ Rising (now clusters) n ⌝ }
+    ensures { λ r. ⌜ Below (now (clusters .entry)) n value r ⌝ }
+{
+    let mut low = 0;
+    let mut high = n;
+    while low < high {
+        let middle = low + (high - low) / 2;
+        if clusters[middle] < value {
+            low = middle + 1;
+        } else {
+            high = middle;
+        }
+    }
+    low
+}
+
+// For each taxon, how many of the first `n` rows lie below it.
+pub(crate) fn starts_of(clusters: &[u64], n: usize) -> [usize; 65]
+    requires { ⌜ Rising (now clusters) n ⌝ }
+    ensures { λ r. ⌜ Starts (now (clusters .entry)) n r ⌝ }
+{
+    let mut starts = [n; 65];
+    let mut taxon: usize = 0;
+    while taxon < 64 {
+        starts[taxon] = place_below(clusters, n, 1u64 << taxon);
+        taxon += 1;
+    }
+    starts
+}
+
+// Row `i` as one part of a tuple.
+fn part<'a>(
+    counts: &'a [u64],
+    marks: &'a [u8],
+    bests: &'a [i64],
+    lows: &'a [u64],
+    highs: &'a [u64],
+    i: usize,
+) -> Tally
+    requires { ⌜ i < length (now counts) ⌝ }
+    requires { ⌜ i < length (now marks) ⌝ }
+    requires { ⌜ i < length (now bests) ⌝ }
+    requires { ⌜ i < length (now lows) ⌝ }
+    requires { ⌜ i < length (now highs) ⌝ }
+    ensures { λ r. ⌜ r ≡ partTally
+        (columns [] [] (now (counts .entry)) (now (marks .entry)) (now (bests .entry)) (now (lows .entry)) (now (highs .entry))) i ⌝ }
+{
+    let best = bests[i];
+    Tally {
+        tuples: 1,
+        count: counts[i],
+        mark: marks[i],
+        best,
+        low: lows[i],
+        high: highs[i],
+    }
+}
+
+// Over the covers of `rest` by one of the first `end` rows: the row of `rest` itself, if it is there and scored.
+fn last<'a>(
+    clusters: &'a [u64],
+    states: &'a [u8],
+    counts: &'a [u64],
+    marks: &'a [u8],
+    bests: &'a [i64],
+    lows: &'a [u64],
+    highs: &'a [u64],
+    end: usize,
+    rest: u64,
+    limit: u64,
+) -> Tally
+    requires { ⌜ Readable limit
+        (columns (now clusters) (now states) (now counts) (now marks) (now bests) (now lows) (now highs)) end ⌝ }
+    requires { ⌜ 0 < rest ⌝ }
+    ensures { λ r. ⌜ r ≡ tallyOf limit (sumCovers 1 rest (partsOf
+        (columns (now (clusters .entry)) (now (states .entry)) (now (counts .entry)) (now (marks .entry))
+        (now (bests .entry)) (now (lows .entry)) (now (highs .entry))) end)) ⌝ }
+{
+    let at = place_below(clusters, end, rest);
+    if end <= at {
+        return none();
+    }
+    if clusters[at] != rest {
+        return none();
+    }
+    if states[at] != SCORED {
+        return none();
+    }
+    part(counts, marks, bests, lows, highs, at)
+}
+
+// Over the covers of `rest` by at most `left` of the first `end` rows, which are all below the taxon above `rest`'s highest.
+pub(crate) fn search<'a>(
+    clusters: &'a [u64],
+    states: &'a [u8],
+    counts: &'a [u64],
+    marks: &'a [u8],
+    bests: &'a [i64],
+    lows: &'a [u64],
+    highs: &'a [u64],
+    starts: &'a [usize],
+    end: usize,
+    rest: u64,
+    left: u32,
+    limit: u64,
+) -> Tally
+    requires { ⌜ Searchable limit
+        (columns (now clusters) (now states) (now counts) (now marks) (now bests) (now lows) (now highs)) (now starts) end rest ⌝ }
+    requires { ⌜ (1 ≤ left) × (left ≤ 4) ⌝ }
+    ensures { λ r. ⌜ r ≡ tallyOf limit (sumCovers left rest (partsOf
+        (columns (now (clusters .entry)) (now (states .entry)) (now (counts .entry)) (now (marks .entry))
+        (now (bests .entry)) (now (lows .entry)) (now (highs .entry))) end)) ⌝ }
+{
+    if left == 1 {
+        return last(
+            clusters,
+            states,
+            counts,
+            marks,
+            bests,
+            lows,
+            highs,
+            end,
+            rest,
+            limit,
+        );
+    }
+    let start = starts[highest(rest) as usize];
+    let mut sum = none();
+    let mut i = end;
+    while start < i {
+        i -= 1;
+        let c = clusters[i];
+        if is_inside(c, rest) {
+            if states[i] == SCORED {
+                let one = part(counts, marks, bests, lows, highs, i);
+                let other = rest - c;
+                if other == 0 {
+                    sum = plus(sum, one, limit);
+                } else {
+                    let next = starts[highest(other) as usize + 1];
+                    let inner = search(
+                        clusters,
+                        states,
+                        counts,
+                        marks,
+                        bests,
+                        lows,
+                        highs,
+                        starts,
+                        next,
+                        other,
+                        left - 1,
+                        limit,
+                    );
+                    sum = plus(sum, under(one, inner, limit), limit);
+                }
+            }
+        }
+    }
+    sum
+}

@@ -1,0 +1,137 @@
+// Rows worked out from the rows beneath, in ascending order. Cites `specs/Working.antt`.
+//     own        a row by itself
+//     worked     the result of one row
+//     again      every row that contains a cluster
+use crate::limits::COUNT_MAX;
+use crate::limits::SCORED;
+use crate::limits::WORD_ROWS;
+use crate::searching::search;
+use crate::searching::starts_of;
+use crate::table::Table;
+use crate::tally::Tally;
+use crate::tally::none;
+use crate::tally::under;
+use cluster::is_inside;
+use cluster::is_single;
+ghost use mathlib.Core.Path.{_≡_};
+ghost use Prim.Native.Nat.{_<_};
+ghost use Rattle.table.specs.Tally.{fieldsTally, ownTally, lowMark, highMark};
+ghost use Rattle.table.specs.Searched.{columns};
+ghost use Rattle.table.specs.Working.{Workable, workedRow, againTable, Ready};
+
+// The mark of row `i` in the low word.
+fn low_mark(i: usize) -> u64
+    ensures { λ r. ⌜ r ≡ lowMark i ⌝ }
+{
+    if i < WORD_ROWS {
+        return 1u64 << i;
+    }
+    0
+}
+
+// The mark of row `i` in the high word.
+fn high_mark(i: usize) -> u64
+    requires { ⌜ i < 128 ⌝ }
+    ensures { λ r. ⌜ r ≡ highMark i ⌝ }
+{
+    if i < WORD_ROWS {
+        return 0;
+    }
+    1u64 << (i - WORD_ROWS)
+}
+
+// Row `i` by itself, as one tuple or as none.
+fn own(weight: i32, i: usize, tuples: u64) -> Tally
+    requires { ⌜ i < 128 ⌝ }
+    ensures { λ r. ⌜ r ≡ ownTally tuples weight i ⌝ }
+{
+    let best = weight as i64;
+    Tally {
+        tuples,
+        count: 1,
+        mark: 0,
+        best,
+        low: low_mark(i),
+        high: high_mark(i),
+    }
+}
+
+// The result of row `i`, from the rows beneath.
+fn worked<'a>(
+    clusters: &'a [u64],
+    states: &'a [u8],
+    counts: &'a [u64],
+    marks: &'a [u8],
+    bests: &'a [i64],
+    lows: &'a [u64],
+    highs: &'a [u64],
+    starts: &'a [usize],
+    weight: i32,
+    i: usize,
+    degree: u32,
+) -> Tally
+    requires { ⌜ Ready (columns (now clusters) (now states) (now counts) (now marks) (now bests) (now lows) (now highs)) (now starts) weight i degree ⌝ }
+    ensures { λ r. ⌜ r ≡ fieldsTally (workedRow (columns (now (clusters .entry)) (now (states .entry)) (now (counts .entry)) (now (marks .entry)) (now (bests .entry)) (now (lows .entry)) (now (highs .entry))) weight i degree) ⌝ }
+{
+    if states[i] != SCORED {
+        return none();
+    }
+    let c = clusters[i];
+    if is_single(c) {
+        return own(weight, i, 0);
+    }
+    let found = search(
+        clusters,
+        states,
+        counts,
+        marks,
+        bests,
+        lows,
+        highs,
+        starts,
+        i,
+        c,
+        degree - 1,
+        COUNT_MAX,
+    );
+    under(own(weight, i, 1), found, COUNT_MAX)
+}
+
+// The table with every row that contains `cluster` worked out again, in ascending order; the others stay as they are.
+pub(crate) fn again(given: Table, cluster: u64) -> Table
+    requires { ⌜ Workable given cluster ⌝ }
+    ensures { λ t. ⌜ t ≡ againTable given cluster ⌝ }
+{
+    let n = given.rows;
+    let degree = given.degree;
+    let starts = starts_of(&given.clusters, n);
+    let mut t = given;
+    let mut i = 0;
+    while i < n {
+        if is_inside(cluster, t.clusters[i]) {
+            let weight = t.weights[i];
+            let r = worked(
+                &t.clusters,
+                &t.states,
+                &t.counts,
+                &t.marks,
+                &t.bests,
+                &t.members_low,
+                &t.members_high,
+                &starts,
+                weight,
+                i,
+                degree,
+            );
+            let best = r.best;
+            t.lengths[i] = r.tuples;
+            t.counts[i] = r.count;
+            t.marks[i] = r.mark;
+            t.bests[i] = best;
+            t.members_low[i] = r.low;
+            t.members_high[i] = r.high;
+        }
+        i += 1;
+    }
+    t
+}
