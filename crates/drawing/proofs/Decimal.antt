@@ -3,6 +3,7 @@
 --     decimal-figures        a number in decimal is figures
 --     decimal-some           one at least: the first, and the others
 --     decimal-inj            equal figures, equal numbers
+--     decimal-one, decimal-two     one figure, or two
 -- Assumes nothing.
 use mathlib.Core.Path.{_≡_, refl, sym, ap, _∙_}
 use mathlib.Core.Bool.{Bool, true, _&&_}
@@ -27,6 +28,15 @@ figures-low (suc k) n h = rw (T-true (ltb n 10) (lt→ltb n 10 h))
 figures-high : (k n : ℕ) → 10 ≤ n → figures (suc k) n ≡ figures k (n / 10) ++ (figure (n % 10) ∷ [])
 unfolding figures
 figures-high k n h = rw (T-false (ltb n 10) (λ t. omega (arith, ltb→lt n 10 t)))
+
+pub decimal-one : (n : ℕ) → n < 10 → decimal n ≡ figure n ∷ []
+decimal-one n h = figures-low n n h
+
+pub decimal-two : (n : ℕ) → 10 ≤ n → n < 100 → decimal n ≡ figure (n / 10) ∷ figure (n % 10) ∷ []
+decimal-two zero h l = absurd (omega arith)
+decimal-two (suc k) h l =
+    let n = suc k in
+    figures-high k n h ∙ ap (λ (s : List ℕ). s ++ (figure (n % 10) ∷ [])) (figures-low k (n / 10) (omega arith))
 
 -- ---- a number, read back from its figures
 

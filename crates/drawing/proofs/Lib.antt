@@ -21,5 +21,29 @@ pub mod PartBytes
 pub mod TextLength
 -- the theorems about trees
 pub mod Theorems
+-- a list of clusters backward
+pub mod Backward
+-- the marked rows of a table whose marks are those of a test
+pub mod MarkedRows
+-- the leaf set of a built table, and its row
+pub mod LeafRow
+-- its first heaviest tree, as the marks have it
+pub mod LeafTree
+-- what is drawn of a built table
+pub mod DrawnTables
+-- and of the built table of an accepted list
+pub mod DrawnLists
 -- the texts of the paper's own examples
 pub mod Cases
+-- the child with a taxon, as the writer of a text looks for it
+pub mod PartWith
+-- bytes stored one after another
+pub mod Stores
+-- a part that the writer may write
+pub mod Writable
+-- what the writer has left to write
+pub mod Written
+-- one outcome of asking for a tree or a text
+pub mod Outcomes
+-- what the private functions are proved by
+mod Laws

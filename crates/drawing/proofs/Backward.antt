@@ -1,0 +1,126 @@
+-- A list of clusters backward has the same trees, shapes and texts: only which clusters are members plays a part.
+--     every-reverse, some-reverse, keep-reverse     tests and filters of a list backward
+--     children-reverse      the children of a member
+--     isTree-reverse        the test of a tree
+--     on-reverse            the facts of a tree
+--     text-reverse          the text of a tree
+--     falling-keep          what a filter leaves of a list that falls
+-- Assumes nothing.
+use mathlib.Core.Path.{_≡_, refl, sym, ap, _∙_}
+use mathlib.Core.Bool.{Bool, true, false, not, _&&_, _||_}
+use mathlib.Core.List.{List, [], _∷_, _++_, reverse, reverse-cons, append-nil}
+use Prim.Native.Nat.{ℕ, _-_}
+use lib.Dec.{T, eqb, leb}
+use lib.ListN.{length, length-reverse}
+use Rattle.laws.specs.Cluster.{inside, strict, nested, single, size, taxa}
+use Rattle.laws.specs.Lists.{keepIf, keep, every, some}
+use Rattle.laws.proofs.Appended.{mem-reverse, mem-of-reverse, once-reverse}
+use Rattle.laws.proofs.Falling.{Falling}
+use Rattle.laws.proofs.Keep.{mem-of-keep, every→, →every, some→, →some, keep-append}
+use Rattle.laws.proofs.Tests.{bool-ext}
+use Rattle.trees.specs.Tree.{children, isTree}
+use Rattle.drawing.specs.Shape.{clustersOf}
+use Rattle.drawing.specs.Text.{textBytes}
+use Rattle.drawing.specs.Drawn.{shapeOf, textOf}
+use Rattle.drawing.proofs.Only.{Same}
+use Rattle.drawing.proofs.Theorems.{TreeOn, shape-ordered, shape-clusters, shape-once, shape-only}
+
+-- ---- tests and filters
+
+module _ {A : Type 0} (p : A → Bool) (l : List A) where
+  pub every-reverse : every p (reverse l) ≡ every p l
+  every-reverse =
+      bool-ext (every p (reverse l)) (every p l) (λ h. →every p l (λ x m. every→ p (reverse l) h x (mem-reverse l m)))
+      (λ h. →every p (reverse l) (λ x m. every→ p l h x (mem-of-reverse l m)))
+
+  pub some-reverse : some p (reverse l) ≡ some p l
+  some-reverse = bool-ext (some p (reverse l)) (some p l) to from
+    where
+      to : T (some p (reverse l)) → T (some p l)
+      to h = let q = some→ p (reverse l) h in →some p l (mem-of-reverse l (q .1)) (q .2)
+
+      from : T (some p l) → T (some p (reverse l))
+      from h = let q = some→ p l h in →some p (reverse l) (mem-reverse l (q .1)) (q .2)
+
+module _ {A : Type 0} (p : A → Bool) where
+  pub keep-reverse : (l : List A) → keep p (reverse l) ≡ reverse (keep p l)
+  keep-reverse [] = refl
+  keep-reverse (x ∷ xs) =
+      ap (keep p) (reverse-cons x xs)
+      ∙ keep-append p (reverse xs) (x ∷ [])
+      ∙ ap (λ (r : List A). r ++ keep p (x ∷ [])) (keep-reverse xs)
+      ∙ last (p x)
+    where
+      last : (b : Bool) → reverse (keep p xs) ++ keepIf b x [] ≡ reverse (keepIf b x (keep p xs))
+      last true = sym (reverse-cons x (keep p xs))
+      last false = append-nil (reverse (keep p xs))
+
+pub falling-keep : (p : ℕ → Bool) (l : List ℕ) → Falling l → Falling (keep p l)
+falling-keep p [] f = tt
+falling-keep p (c ∷ cs) f = go (p c) (falling-keep p cs (f .1))
+  where
+    go : (b : Bool) → Falling (keep p cs) → Falling (keepIf b c (keep p cs))
+    go true h = ((λ x m. f .0 x (mem-of-keep p cs m .0)), h)
+    go false h = h
+
+-- ---- the test of a tree
+
+module _ (xs : List ℕ) where
+  abbrev isChild : List ℕ → ℕ → ℕ → Bool
+  isChild ys m k = strict k m && not (some (λ (l : ℕ). strict l m && strict k l) ys)
+
+  pub children-reverse : (m : ℕ) → children (reverse xs) m ≡ reverse (children xs m)
+  children-reverse m =
+      (λ i. keep (λ (k : ℕ). strict k m && not (some-reverse (λ (l : ℕ). strict l m && strict k l) xs i)) (reverse xs))
+      ∙ keep-reverse (isChild xs m) xs
+
+  module _ (w d C : ℕ) where
+    laminar-reverse : every (λ (a : ℕ). every (λ (b : ℕ). nested a b) (reverse xs)) (reverse xs)
+        ≡ every (λ (a : ℕ). every (λ (b : ℕ). nested a b) xs) xs
+    laminar-reverse =
+        (λ i. every (λ (a : ℕ). every-reverse (λ (b : ℕ). nested a b) xs i) (reverse xs))
+        ∙ every-reverse (λ (a : ℕ). every (λ (b : ℕ). nested a b) xs) xs
+
+    few-reverse : every (λ (m : ℕ). single m || leb (length (children (reverse xs) m)) (d - 1)) (reverse xs)
+        ≡ every (λ (m : ℕ). single m || leb (length (children xs m)) (d - 1)) xs
+    few-reverse =
+        (λ i. every (λ (m : ℕ). single m || leb (count m i) (d - 1)) (reverse xs))
+        ∙ every-reverse (λ (m : ℕ). single m || leb (length (children xs m)) (d - 1)) xs
+      where
+        count : (m : ℕ) → length (children (reverse xs) m) ≡ length (children xs m)
+        count m = ap length (children-reverse m) ∙ length-reverse (children xs m)
+
+    pub isTree-reverse : isTree w d C (reverse xs) ≡ isTree w d C xs
+    unfolding isTree
+    isTree-reverse = λ i.
+        every-reverse (λ (m : ℕ). inside m C) xs i
+        && some-reverse (λ (x : ℕ). eqb C x) xs i
+        && every (λ (u : ℕ). not (inside u C) || some-reverse (λ (x : ℕ). eqb u x) xs i) (taxa w)
+        && laminar-reverse i
+        && few-reverse i
+
+-- ---- the facts of a tree, and its text
+
+module _ (xs : List ℕ) (C : ℕ) (tree : TreeOn xs C) where
+  pub on-reverse : TreeOn (reverse xs) C
+  on-reverse = record {
+    nests = record {
+      once = once-reverse xs (tree .nests .once);
+      nonzero = λ c m. tree .nests .nonzero c (mem-of-reverse xs m);
+      small = λ c m. tree .nests .small c (mem-of-reverse xs m);
+      nest = λ a b m k. tree .nests .nest a b (mem-of-reverse xs m) (mem-of-reverse xs k);
+      leaves = λ c t m i. mem-reverse xs (tree .nests .leaves c t (mem-of-reverse xs m) i);
+    };
+    top = mem-reverse xs (tree .top);
+    within = λ c m. tree .within c (mem-of-reverse xs m);
+  }
+
+  pub text-reverse : textOf (reverse xs) C ≡ textOf xs C
+  text-reverse =
+      ap textBytes
+      (shape-only xs C tree (shapeOf (size C) (reverse xs) C)
+      (shape-ordered (reverse xs) C on-reverse) (shape-once (reverse xs) C on-reverse)
+      (record { to = λ c m. mem-of-reverse xs (same .to c m); from = λ c m. same .from c (mem-reverse xs m) }))
+    where
+      same : Same (clustersOf (shapeOf (size C) (reverse xs) C)) (reverse xs)
+      same = shape-clusters (reverse xs) C on-reverse

@@ -1,0 +1,181 @@
+-- The leaf set of a built table, its row, and whether there is a tree on it (document 01, "The table"): what the table of accepted rows
+-- shows, in terms of the rows it was built from.
+--     builtFrom d rs, leaves rs, treesOf d rs       the built table, the leaf set of rows, and the trees on it
+--     rows-are, clusters-down, shown-is, rising     the table's rows are those it was built from; it shows them all, ascending
+--     row-at                 each is one of them, with the results of its trees
+--     leaf-set-is            the leaf set of the table is that of the rows
+--     leaf-row-iff           it has a row exactly where one of the rows has it for cluster
+--     leaf-row-is            and its row is that one, with the results of its trees
+--     leaf-result            which are those of the trees on the leaf set
+--     leaf-listed            where there is a tree, the leaf set has a row
+--     has-tree-iff           the table has a tree exactly where there is one
+-- Assumes nothing.
+use mathlib.Core.Path.{_≡_, refl, sym, ap, ap₂, _∙_, subst}
+use mathlib.Core.Logic.{_≢_, _↔_}
+use mathlib.Core.Bool.{not}
+use mathlib.Core.Option.{Option, none, some}
+use mathlib.Core.List.{List, [], _∷_, map, Memᴰ·map, Memᴰ·of-map}
+use mathlib.Core.List.{List·Memᴰ as Mem}
+use Prim.Native.Nat.{ℕ, _≤_, _<_}
+use native.Mathlib.Nat.{min-eq-left}
+use native.Mathlib.Decide.{decLt}
+use native.Mathlib.Omega.{arith}
+use lib.Dec.{T, eqb, ltb, ltb→lt, lt→ltb, lit≤}
+use lib.ListN.{length, length-map}
+use Rattle.laws.specs.Cluster.{unionOf}
+use Rattle.laws.specs.Limits.{narrow}
+use Rattle.laws.specs.Lists.{elem}
+use Rattle.laws.proofs.Keep.{elem→, →elem, nil-of-none}
+use Rattle.laws.proofs.Tests.{T-and, and-T, neq→, →neq}
+use Rattle.trees.specs.Rows.{Row, clustersOf, scoredIn, Entry, cl}
+use Rattle.trees.specs.Tree.{treesOn}
+use Rattle.trees.specs.Heaviest.{firstHeaviest}
+use Rattle.trees.specs.Result.{Result, countField}
+use Rattle.trees.specs.Built.{rowLength, withBest, treeResult, builtResult, builtTable}
+use Rattle.trees.proofs.Rows.{givenOf, mem-scored}
+use Rattle.trees.proofs.Theorems.{count-iff}
+use Rattle.trees.proofs.TreeTest.{tree-of}
+use Rattle.table.specs.declared.table.Table.{Table}
+use Rattle.table.specs.View.{rowCap, resultAt, entryAt, entriesOf, tableOf}
+use Rattle.table.specs.Rows.{shownRows, unionTo, leafSet}
+use Rattle.table.specs.Searched.{clustersDown, Rising}
+use Rattle.table.proofs.AgainLoop.{mem-entries}
+use Rattle.table.proofs.FitTables.{Accepted, built-fit}
+use Rattle.table.proofs.Laws.Fit.{isFit→}
+use Rattle.table.proofs.Laws.Rows.{placeOf-first, hasRow-is, unionTo-is}
+use Rattle.table.proofs.Laws.View.{entries-clusters, entries-table, table-sized}
+use Rattle.drawing.specs.Draw.{leafRow, hasTree}
+
+abbrev pub builtFrom : ℕ → List Row → Table
+builtFrom d rs = tableOf d (builtTable narrow d rs)
+
+abbrev pub leaves : List Row → ℕ
+leaves rs = unionOf (clustersOf rs)
+
+abbrev pub treesOf : ℕ → List Row → List (List ℕ)
+treesOf d rs = treesOn (narrow .taxa) d (scoredIn rs) (leaves rs)
+
+-- ---- the test as facts
+
+has-tree→ : (t : Table) → T (hasTree t) → (leafRow t < t .rows) × (resultAt t (leafRow t) .count ≢ 0)
+has-tree→ t h =
+    let q = T-and (ltb (leafRow t) (t .rows)) (not (eqb (resultAt t (leafRow t) .count) 0)) h in
+    (ltb→lt (leafRow t) (t .rows) (q .0), neq→ (resultAt t (leafRow t) .count) 0 (q .1))
+
+→has-tree : (t : Table) → leafRow t < t .rows → resultAt t (leafRow t) .count ≢ 0 → T (hasTree t)
+→has-tree t h n =
+    and-T (ltb (leafRow t) (t .rows)) (not (eqb (resultAt t (leafRow t) .count) 0)) (lt→ltb (leafRow t) (t .rows) h)
+    (→neq (resultAt t (leafRow t) .count) 0 n)
+
+-- ---- the rows of the table
+
+module _ (d : ℕ) (rs : List Row) (k : Accepted d rs) where
+  abbrev t : Table
+  t = builtFrom d rs
+
+  abbrev entry : Row → Entry Result
+  entry r = record { row = r; val = builtResult narrow d rs r }
+
+  rows-count : t .rows ≡ length rs
+  rows-count = length-map rs entry
+
+  capped : t .rows ≤ rowCap
+  capped = subst (λ (n : ℕ). n ≤ rowCap) (sym rows-count) (k .capped)
+
+  pub shown-is : shownRows t ≡ t .rows
+  shown-is = min-eq-left capped
+
+  clusters-built : (l : List Row) → map cl (map entry l) ≡ clustersOf l
+  clusters-built [] = refl
+  clusters-built (r ∷ l) = ap (λ (cs : List ℕ). r .cluster ∷ cs) (clusters-built l)
+
+  rows-built : (l : List Row) → map (λ (e : Entry Result). e .row) (map entry l) ≡ l
+  rows-built [] = refl
+  rows-built (r ∷ l) = ap (λ (q : List Row). r ∷ q) (rows-built l)
+
+  clusters-are : map cl (entriesOf t (t .rows)) ≡ clustersOf rs
+  clusters-are = ap (map cl) (entries-table d (builtTable narrow d rs)) ∙ clusters-built rs
+
+  pub rows-are : map (λ (e : Entry Result). e .row) (entriesOf t (t .rows)) ≡ rs
+  rows-are = ap (map (λ (e : Entry Result). e .row)) (entries-table d (builtTable narrow d rs)) ∙ rows-built rs
+
+  pub clusters-down : clustersDown (t .clusters) (t .rows) ≡ clustersOf rs
+  clusters-down = sym (entries-clusters t (t .rows)) ∙ clusters-are
+
+  pub rising : Rising (t .clusters) (t .rows)
+  rising = record {
+    long = omega (arith, table-sized d (builtTable narrow d rs) capped .clusters, capped);
+    up = isFit→ t (built-fit d rs k) .rising;
+  }
+
+  pub row-at : (i : ℕ) → i < t .rows → (r : Row) × Mem r rs × (entry r ≡ entryAt t i)
+  row-at i h =
+      Memᴰ·of-map entry rs (subst (Mem (entryAt t i)) (entries-table d (builtTable narrow d rs)) (mem-entries t (t .rows) i h))
+
+  -- ---- the leaf set and its row
+
+  pub leaf-set-is : leafSet (builtFrom d rs) ≡ leaves rs
+  leaf-set-is =
+      ap (unionTo (t .clusters)) shown-is ∙ unionTo-is (t .clusters) (t .rows) ∙ ap unionOf clusters-down
+
+  pub leaf-row-iff : (leafRow (builtFrom d rs) < builtFrom d rs .rows) ↔ Mem (leaves rs) (clustersOf rs)
+  leaf-row-iff = (to, from)
+    where
+      is : elem (leafSet t) (map cl (entriesOf t (t .rows))) ≡ ltb (leafRow t) (t .rows)
+      is = hasRow-is t capped (leafSet t)
+
+      listed : elem (leafSet t) (map cl (entriesOf t (t .rows))) ≡ elem (leaves rs) (clustersOf rs)
+      listed = ap₂ elem leaf-set-is clusters-are
+
+      to : leafRow t < t .rows → Mem (leaves rs) (clustersOf rs)
+      to h = elem→ (leaves rs) (clustersOf rs) (subst T (sym is ∙ listed) (lt→ltb (leafRow t) (t .rows) h))
+
+      from : Mem (leaves rs) (clustersOf rs) → leafRow t < t .rows
+      from m = ltb→lt (leafRow t) (t .rows) (subst T (sym listed ∙ is) (→elem (leaves rs) (clustersOf rs) m))
+
+  pub leaf-row-is : leafRow (builtFrom d rs) < builtFrom d rs .rows → (r : Row) × Mem r rs × (r .cluster ≡ leaves rs)
+      × (entryAt (builtFrom d rs) (leafRow (builtFrom d rs)) ≡ record { row = r; val = builtResult narrow d rs r })
+  leaf-row-is h =
+      let q = row-at (leafRow t) h in
+      (q .0, q .1, ap cl (q .2) ∙ placeOf-first t capped (leafSet t) .at h ∙ leaf-set-is, sym (q .2))
+
+  -- its results are those of the trees on the leaf set
+  pub leaf-result : leafRow t < t .rows → (n : ℕ) × (resultAt t (leafRow t) ≡ treeResult narrow rs n (treesOf d rs))
+  leaf-result h =
+      let q = leaf-row-is h in
+      let n = rowLength d rs (q .0) in (
+        n,
+        ap (λ (e : Entry Result). e .val) (q .3)
+            ∙ ap (λ (c : ℕ). treeResult narrow rs n (treesOn (narrow .taxa) d (scoredIn rs) c)) (q .2),
+      )
+
+  -- ---- whether there is a tree
+
+  count-of : (n c m : ℕ) (x : Option (List ℕ)) → withBest rs n c m x .count ≡ c
+  count-of n c m none = refl
+  count-of n c m (some xs) = refl
+
+  leaf-count : leafRow t < t .rows → resultAt t (leafRow t) .count ≡ countField (narrow .countMax) (length (treesOf d rs))
+  leaf-count h =
+      let q = leaf-result h in
+      ap (λ (v : Result). v .count) (q .1) ∙ count-of (q .0) _ _ (firstHeaviest rs (treesOf d rs))
+
+  -- a tree has the leaf set, which is then listed
+  pub leaf-listed : (xs : List ℕ) → Mem xs (treesOf d rs) → leafRow t < t .rows
+  leaf-listed xs m =
+      let tree = tree-of (givenOf (narrow .taxa) d rs (k .facts)) (leaves rs) xs m .1 in
+      let q = mem-scored rs (leaves rs) (tree .listed (leaves rs) (tree .top)) in
+      leaf-row-iff .1 (subst (λ (c : ℕ). Mem c (clustersOf rs)) (q .3) (Memᴰ·map (λ (r : Row). r .cluster) (q .1)))
+
+  count-zero : (countField (narrow .countMax) (length (treesOf d rs)) ≡ 0) ↔ (treesOf d rs ≡ [])
+  count-zero = count-iff (narrow .taxa) d rs (k .facts) (leaves rs) (narrow .countMax) (lit≤ tt)
+
+  pub has-tree-iff : T (hasTree (builtFrom d rs)) ↔ (treesOf d rs ≢ [])
+  has-tree-iff = (to, λ n. from n (decLt (leafRow t) (t .rows)))
+    where
+      to : T (hasTree t) → treesOf d rs ≢ []
+      to h e = let q = has-tree→ t h in q .1 (leaf-count (q .0) ∙ count-zero .1 e)
+
+      from : treesOf d rs ≢ [] → Dec (leafRow t < t .rows) → T (hasTree t)
+      from n (yes h) = →has-tree t h (λ e. n (count-zero .0 (sym (leaf-count h) ∙ e)))
+      from n (no f) = absurd (n (nil-of-none (treesOf d rs) (λ xs m. f (leaf-listed xs m))))

@@ -1,0 +1,192 @@
+// Whether a set of clusters is a tree. Cites `specs/Tree.antt` of the crate `trees`.
+//     has              whether a cluster is in the set
+//     are_inside       whether all are inside one
+//     has_taxa         whether the set has each taxon of a cluster
+//     is_laminar       whether any two are nested or apart
+//     child_count      how many children a member has
+//     are_few          whether no member of two or more taxa has too many
+//     is_tree          all of it
+use cluster::is_apart;
+use cluster::is_inside;
+use cluster::is_single;
+ghost use mathlib.Core.Path.{_≡_};
+ghost use mathlib.Core.Bool.{not, _&&_, _||_};
+ghost use Prim.Native.Nat.{_≤_};
+ghost use lib.Dec.{leb};
+ghost use lib.ListN.{length};
+ghost use Rattle.laws.specs.Cluster.{inside, strict, nested, single, taxa};
+ghost use Rattle.laws.specs.Limits.{narrow};
+ghost use Rattle.laws.specs.Lists.{every, some, elem};
+ghost use Rattle.trees.specs.Tree.{children, isTree};
+
+// Taxa that a cluster of this width can have.
+const TAXA: u32 = 32;
+
+// Whether `a` lies inside `b` and is another cluster.
+pub(crate) fn is_strict(a: u64, b: u64) -> bool
+    ensures { λ r. ⌜ r ≡ strict a b ⌝ }
+{
+    if a == b {
+        return false;
+    }
+    is_inside(a, b)
+}
+
+// Whether one lies inside the other, or they share no taxon.
+fn is_nested(a: u64, b: u64) -> bool
+    ensures { λ r. ⌜ r ≡ nested a b ⌝ }
+{
+    if is_inside(a, b) {
+        return true;
+    }
+    if is_inside(b, a) {
+        return true;
+    }
+    is_apart(a, b)
+}
+
+// Whether `c` is one of them.
+fn has(xs: &[u64], c: u64) -> bool
+    ensures { λ r. ⌜ r ≡ elem c (now (xs .entry)) ⌝ }
+{
+    let mut i = 0;
+    while i < xs.len() {
+        if xs[i] == c {
+            return true;
+        }
+        i += 1;
+    }
+    false
+}
+
+// Whether all are inside `c`.
+fn are_inside(xs: &[u64], c: u64) -> bool
+    ensures { λ r. ⌜ r ≡ every (λ m. inside m c) (now (xs .entry)) ⌝ }
+{
+    let mut i = 0;
+    while i < xs.len() {
+        if !is_inside(xs[i], c) {
+            return false;
+        }
+        i += 1;
+    }
+    true
+}
+
+// Whether each single taxon of `c` is one of them.
+fn has_taxa(xs: &[u64], c: u64) -> bool
+    ensures { λ r. ⌜ r ≡ every (λ u. not (inside u c) || elem u (now (xs .entry))) (taxa (narrow .taxa)) ⌝ }
+{
+    let mut taxon = 0;
+    while taxon < TAXA {
+        let u = 1u64 << taxon;
+        if is_inside(u, c) {
+            if !has(xs, u) {
+                return false;
+            }
+        }
+        taxon += 1;
+    }
+    true
+}
+
+// Whether each is nested in or apart from `a`.
+fn nests(xs: &[u64], a: u64) -> bool
+    ensures { λ r. ⌜ r ≡ every (λ b. nested a b) (now (xs .entry)) ⌝ }
+{
+    let mut i = 0;
+    while i < xs.len() {
+        if !is_nested(a, xs[i]) {
+            return false;
+        }
+        i += 1;
+    }
+    true
+}
+
+// Whether any two are nested or apart.
+fn is_laminar(xs: &[u64]) -> bool
+    ensures { λ r. ⌜ r ≡ every (λ a. every (λ b. nested a b) (now (xs .entry))) (now (xs .entry)) ⌝ }
+{
+    let mut i = 0;
+    while i < xs.len() {
+        if !nests(xs, xs[i]) {
+            return false;
+        }
+        i += 1;
+    }
+    true
+}
+
+// Whether one of them lies strictly between `k` and `m`.
+fn has_between(xs: &[u64], k: u64, m: u64) -> bool
+    ensures { λ r. ⌜ r ≡ some (λ l. strict l m && strict k l) (now (xs .entry)) ⌝ }
+{
+    let mut i = 0;
+    while i < xs.len() {
+        let l = xs[i];
+        if is_strict(l, m) {
+            if is_strict(k, l) {
+                return true;
+            }
+        }
+        i += 1;
+    }
+    false
+}
+
+// How many children `m` has among them.
+fn child_count(xs: &[u64], m: u64) -> usize
+    ensures { λ r. ⌜ r ≡ length (children (now (xs .entry)) m) ⌝ }
+{
+    let mut count = 0;
+    let mut i = 0;
+    while i < xs.len() {
+        let k = xs[i];
+        if is_strict(k, m) {
+            if !has_between(xs, k, m) {
+                count += 1;
+            }
+        }
+        i += 1;
+    }
+    count
+}
+
+// Whether each of two or more taxa has at most `most` children.
+fn are_few(xs: &[u64], most: usize) -> bool
+    ensures { λ r. ⌜ r ≡ every (λ m. single m || leb (length (children (now (xs .entry)) m)) most) (now (xs .entry)) ⌝ }
+{
+    let mut i = 0;
+    while i < xs.len() {
+        let m = xs[i];
+        if !is_single(m) {
+            if most < child_count(xs, m) {
+                return false;
+            }
+        }
+        i += 1;
+    }
+    true
+}
+
+// Whether they are a tree on `c` with at most `most` children.
+pub(crate) fn is_tree(xs: &[u64], c: u64, degree: u32) -> bool
+    requires { ⌜ 1 ≤ degree ⌝ }
+    ensures { λ r. ⌜ r ≡ isTree (narrow .taxa) degree c (now (xs .entry)) ⌝ }
+{
+    if !are_inside(xs, c) {
+        return false;
+    }
+    if !has(xs, c) {
+        return false;
+    }
+    if !has_taxa(xs, c) {
+        return false;
+    }
+    if !is_laminar(xs) {
+        return false;
+    }
+    let most = (degree - 1) as usize;
+    are_few(xs, most)
+}
