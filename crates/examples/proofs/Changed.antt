@@ -1,0 +1,143 @@
+-- Which rows differ between two tables: a test, and what it shows.
+--     isSame→                   two integers that pass the test are equal
+--     isSameRow, isSameEntry    two rows hold the same: as listed, and with their results
+--     isChanged t u cs n        of the first n rows, exactly those of the clusters cs differ
+--     changed→                  so it is
+-- Assumes nothing.
+use mathlib.Core.Path.{_≡_, refl, sym, subst}
+use mathlib.Core.Logic.{_↔_}
+use mathlib.Core.Bool.{Bool, true, false, not, cond, _&&_}
+use mathlib.Core.List.{List}
+use Prim.Native.Nat.{ℕ, zero, suc, _≤_, _<_}
+use native.Mathlib.Decide.{decLe}
+use native.Mathlib.Omega.{arith}
+use lib.Dec.{T, eqb, eqb→eq, eqb-refl, T-not, not-T}
+use lib.IntN.{ℤ}
+use lib.Signed.{ltZ}
+use Rattle.laws.specs.Lists.{elem}
+use Rattle.laws.proofs.Integers.{Tri, tri, ltZ-irrefl}
+use Rattle.laws.proofs.Tests.{T-and, and-T}
+use Rattle.trees.specs.Rows.{Row, Entry}
+use Rattle.trees.specs.Result.{Result}
+use Rattle.table.specs.declared.table.Table.{Table}
+use Rattle.table.specs.View.{rowAt, entryAt}
+use Rattle.drawing.specs.Draw.{isSame}
+use Rattle.examples.specs.Right.{Changes}
+
+-- ---- integers
+
+pub isSame→ : (a b : ℤ) → T (isSame a b) → a ≡ b
+isSame→ a b h = go (tri a b)
+  where
+    q : T (not (ltZ a b)) × T (not (ltZ b a))
+    q = T-and (not (ltZ a b)) (not (ltZ b a)) h
+
+    go : Tri a b → a ≡ b
+    go (Tri.less k) = absurd (T-not (ltZ a b) (q .0) k)
+    go (Tri.same e) = e
+    go (Tri.more k) = absurd (T-not (ltZ b a) (q .1) k)
+
+is-same-refl : (a : ℤ) → T (isSame a a)
+is-same-refl a = let n = not-T (ltZ a a) (ltZ-irrefl a) in and-T (not (ltZ a a)) (not (ltZ a a)) n n
+
+-- ---- rows
+
+abbrev pub isSameRow : Row → Row → Bool
+isSameRow r q = eqb (r .cluster) (q .cluster) && isSame (r .weight) (q .weight) && eqb (r .state) (q .state)
+
+abbrev isSameCount : Result → Result → Bool
+isSameCount v w = eqb (v .length) (w .length) && eqb (v .count) (w .count) && eqb (v .mark) (w .mark)
+
+abbrev isSameBest : Result → Result → Bool
+isSameBest v w = isSame (v .best) (w .best) && eqb (v .members) (w .members)
+
+abbrev pub isSameEntry : Entry Result → Entry Result → Bool
+isSameEntry e f = isSameRow (e .row) (f .row) && (isSameCount (e .val) (f .val) && isSameBest (e .val) (f .val))
+
+three→ : (a b c : Bool) → T (a && b && c) → T a × T b × T c
+three→ a b c h = let q = T-and (a && b) c h in let p = T-and a b (q .0) in (p .0, p .1, q .1)
+
+→three : (a b c : Bool) → T a → T b → T c → T (a && b && c)
+→three a b c x y z = and-T (a && b) c (and-T a b x y) z
+
+row→ : (r q : Row) → T (isSameRow r q) → r ≡ q
+row→ r q h =
+    let p = three→ (eqb (r .cluster) (q .cluster)) (isSame (r .weight) (q .weight)) (eqb (r .state) (q .state)) h in
+    λ i. record {
+      cluster = eqb→eq (r .cluster) (q .cluster) (p .0) i;
+      weight = isSame→ (r .weight) (q .weight) (p .1) i;
+      state = eqb→eq (r .state) (q .state) (p .2) i;
+    }
+
+result→ : (v w : Result) → T (isSameCount v w) → T (isSameBest v w) → v ≡ w
+result→ v w h k =
+    let p = three→ (eqb (v .length) (w .length)) (eqb (v .count) (w .count)) (eqb (v .mark) (w .mark)) h in
+    let b = T-and (isSame (v .best) (w .best)) (eqb (v .members) (w .members)) k in
+    λ i. record {
+      length = eqb→eq (v .length) (w .length) (p .0) i;
+      count = eqb→eq (v .count) (w .count) (p .1) i;
+      mark = eqb→eq (v .mark) (w .mark) (p .2) i;
+      best = isSame→ (v .best) (w .best) (b .0) i;
+      members = eqb→eq (v .members) (w .members) (b .1) i;
+    }
+
+entry→ : (e f : Entry Result) → T (isSameEntry e f) → e ≡ f
+entry→ e f h =
+    let q = T-and (isSameRow (e .row) (f .row)) (isSameCount (e .val) (f .val) && isSameBest (e .val) (f .val)) h in
+    let p = T-and (isSameCount (e .val) (f .val)) (isSameBest (e .val) (f .val)) (q .1) in
+    λ i. record { row = row→ (e .row) (f .row) (q .0) i; val = result→ (e .val) (f .val) (p .0) (p .1) i }
+
+entry-refl : (e : Entry Result) → T (isSameEntry e e)
+entry-refl e =
+    let r = e .row in
+    let v = e .val in
+    let row = →three (eqb (r .cluster) (r .cluster)) (isSame (r .weight) (r .weight)) (eqb (r .state) (r .state))
+    (eqb-refl (r .cluster)) (is-same-refl (r .weight)) (eqb-refl (r .state)) in
+    let counts = →three (eqb (v .length) (v .length)) (eqb (v .count) (v .count)) (eqb (v .mark) (v .mark))
+    (eqb-refl (v .length)) (eqb-refl (v .count)) (eqb-refl (v .mark)) in
+    let best = and-T (isSame (v .best) (v .best)) (eqb (v .members) (v .members)) (is-same-refl (v .best)) (eqb-refl (v .members)) in
+    and-T (isSameRow r r) (isSameCount v v && isSameBest v v) row (and-T (isSameCount v v) (isSameBest v v) counts best)
+
+-- ---- all rows
+
+abbrev agree : Bool → Bool → Bool
+agree a b = cond a b (not b)
+
+agree→ : (a b : Bool) → T (agree a b) → a ≡ b
+agree→ true true h = refl
+agree→ true false h = absurd h
+agree→ false true h = absurd h
+agree→ false false h = refl
+
+abbrev pub isChanged : Table → Table → List ℕ → ℕ → Bool
+isChanged t u cs zero = true
+isChanged t u cs (suc i) =
+    isChanged t u cs i && agree (isSameEntry (entryAt t i) (entryAt u i)) (not (elem (rowAt t i .cluster) cs))
+
+module _ (t u : Table) (cs : List ℕ) where
+  abbrev differs : ℕ → Bool
+  differs i = agree (isSameEntry (entryAt t i) (entryAt u i)) (not (elem (rowAt t i .cluster) cs))
+
+  abbrev Stays : ℕ → Type 0
+  Stays i = (entryAt t i ≡ entryAt u i) ↔ T (not (elem (rowAt t i .cluster) cs))
+
+  stays : (i : ℕ) → T (differs i) → Stays i
+  stays i h =
+      let e = agree→ (isSameEntry (entryAt t i) (entryAt u i)) (not (elem (rowAt t i .cluster) cs)) h in (
+        λ p. subst T e (subst (λ (f : Entry Result). T (isSameEntry (entryAt t i) f)) p (entry-refl (entryAt t i))),
+        λ k. entry→ (entryAt t i) (entryAt u i) (subst T (sym e) k),
+      )
+
+  stays-to : (n : ℕ) → T (isChanged t u cs n) → (i : ℕ) → i < n → Stays i
+  stays-to zero h i l = absurd (omega arith)
+  stays-to (suc n) h i l = go (decLe n i) (stays-to n (q .0) i)
+    where
+      q : T (isChanged t u cs n) × T (differs n)
+      q = T-and (isChanged t u cs n) (differs n) h
+
+      go : Dec (n ≤ i) → (i < n → Stays i) → Stays i
+      go (yes k) ih = let e : n ≡ i = omega arith in subst Stays e (stays n (q .1))
+      go (no k) ih = ih (omega arith)
+
+  pub changed→ : T (isChanged t u cs (t .rows)) → Changes t u cs
+  changed→ h = stays-to (t .rows) h

@@ -1,0 +1,73 @@
+-- The bench examples P1 to P11 of document 01 as one table. Where document 01 names no degree bound (P6, P7), all three are tried. Every
+-- number here is document 01's own but these, which follow from the list and the text that it prints: the members of all but P1, the
+-- weight of P3, and the counts of P4, P5 and P11. That each case is right: `proofs/Theorems.antt`.
+--     houseWith a b       the house list, with the records a and b of {0,1} and {1,2}
+--     house               the house list
+--     leftOpen a          the house list with {1,2} unscored, and the record a of {0,1}
+--     fifteen, ofFifteen n m     all 15 clusters of four taxa at 0, and their tree, with this count and top row's length
+--     cases               the table
+-- Assumes nothing.
+use mathlib.Core.Option.{some}
+use mathlib.Core.List.{List, [], _∷_, _++_, map}
+use Prim.Native.Nat.{ℕ}
+use lib.IntN.{pos, negsuc}
+use Rattle.cluster.specs.declared.record.Record.{Record}
+use Rattle.examples.specs.Case.{Drawn, drawn, Case, score, unscored, refusedFrom, drawnFrom, toldTree}
+
+abbrev pub houseWith : Record → Record → List Record
+houseWith a b = score 1 (pos 0) ∷ score 2 (pos 0) ∷ score 4 (pos 0) ∷ a ∷ b ∷ score 7 (pos 1) ∷ []
+
+abbrev pub house : List Record
+house = houseWith (score 3 (pos 4)) (score 6 (pos 4))
+
+abbrev pub leftOpen : Record → List Record
+leftOpen a = houseWith a (unscored 6)
+
+abbrev pub fifteen : List Record
+fifteen =
+    map (λ (c : ℕ). score c (pos 0)) (1 ∷ 2 ∷ 3 ∷ 4 ∷ 5 ∷ 6 ∷ 7 ∷ 8 ∷ 9 ∷ 10 ∷ 11 ∷ 12 ∷ 13 ∷ 14 ∷ 15 ∷ [])
+
+abbrev pub ofFifteen : ℕ → ℕ → Drawn
+ofFifteen n m = record {
+  count = n;
+  weight = pos 0;
+  rowLength = some m;
+  members = 1 ∷ 2 ∷ 4 ∷ 8 ∷ 12 ∷ 14 ∷ 15 ∷ [];
+  text = "(0,(1,(2,3)));";
+}
+
+abbrev pub cases : List Case
+cases =
+    -- P1, P2, and the third line that `besttree` prints
+    drawnFrom house 3 (toldTree 2 (pos 5) (1 ∷ 2 ∷ 4 ∷ 6 ∷ 7 ∷ []) "(0,(1,2));")
+    ∷ drawnFrom house 4 (toldTree 3 (pos 5) (1 ∷ 2 ∷ 4 ∷ 6 ∷ 7 ∷ []) "(0,(1,2));")
+    ∷ drawnFrom house 5 (toldTree 3 (pos 5) (1 ∷ 2 ∷ 4 ∷ 6 ∷ 7 ∷ []) "(0,(1,2));")
+    -- P3
+    ∷ drawnFrom (leftOpen (score 3 (pos 4))) 3 (toldTree 1 (pos 5) (1 ∷ 2 ∷ 3 ∷ 4 ∷ 7 ∷ []) "((0,1),2);")
+    -- P4, P5: {0,1} at -4, weights -3 and 1
+    ∷ drawnFrom (leftOpen (score 3 (negsuc 3))) 3 (toldTree 1 (negsuc 2) (1 ∷ 2 ∷ 3 ∷ 4 ∷ 7 ∷ []) "((0,1),2);")
+    ∷ drawnFrom (leftOpen (score 3 (negsuc 3))) 4 (toldTree 2 (pos 1) (1 ∷ 2 ∷ 4 ∷ 7 ∷ []) "(0,1,2);")
+    -- P6: {5} at -3, and unscored
+    ∷ drawnFrom (score 32 (negsuc 2) ∷ []) 3 (toldTree 1 (negsuc 2) (32 ∷ []) "5;")
+    ∷ drawnFrom (score 32 (negsuc 2) ∷ []) 4 (toldTree 1 (negsuc 2) (32 ∷ []) "5;")
+    ∷ drawnFrom (score 32 (negsuc 2) ∷ []) 5 (toldTree 1 (negsuc 2) (32 ∷ []) "5;")
+    ∷ refusedFrom (unscored 32 ∷ []) 3 7
+    ∷ refusedFrom (unscored 32 ∷ []) 4 7
+    ∷ refusedFrom (unscored 32 ∷ []) 5 7
+    -- P7
+    ∷ refusedFrom (house ++ (unscored 8 ∷ [])) 3 7
+    ∷ refusedFrom (house ++ (unscored 8 ∷ [])) 4 7
+    ∷ refusedFrom (house ++ (unscored 8 ∷ [])) 5 7
+    -- P8, P9, P10
+    ∷ drawnFrom fifteen 3 (ofFifteen 15 7)
+    ∷ drawnFrom fifteen 4 (ofFifteen 25 13)
+    ∷ drawnFrom fifteen 5 (ofFifteen 26 14)
+    -- P11
+    ∷ record {
+      records = house;
+      degree = 3;
+      rescoring = some (score 3 (pos 5));
+      changed = 3 ∷ 7 ∷ [];
+      outcome = drawn (toldTree 2 (pos 6) (1 ∷ 2 ∷ 3 ∷ 4 ∷ 7 ∷ []) "((0,1),2);");
+    }
+    ∷ []
