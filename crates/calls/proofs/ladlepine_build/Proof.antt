@@ -1,0 +1,19 @@
+-- `calls::ladlepine_build` meets its contract: the digest of the table of the build's promise. Assumes nothing.
+use mathlib.Core.Path.{ap, _∙_}
+use borrow.Author.Needs.{needs}
+use Rattle.table.specs.Build.{Making}
+use Rattle.calls.specs.Digest.{digest}
+use Rattle.calls.proofs.ladlepine_build.Statement.{statement}
+use Rattle.calls.proofs.ladlepine_build.Tie as tie
+
+build-requires : tie.Need-build-requires
+build-requires c κs = search needs
+
+digest-of-requires : tie.Need-digest-of-requires
+digest-of-requires c κs = search needs
+
+returns : tie.Need-returns
+returns c = c .digest-of .ensures ∙ ap (λ (m : Making). digest (m .table)) (c .before .build .ensures)
+
+pub ladlepine-build-spec : {M : Type 1} → statement M
+ladlepine-build-spec = tie.close (tie.spec build-requires digest-of-requires returns)

@@ -1,0 +1,74 @@
+-- `calls::ladlepine_rescore` meets its contract. The invariant: the table is the built one after i rescorings, and i is at most `times`.
+-- The measure is the rescorings left. Assumes nothing.
+use mathlib.Core.Path.{_≡_, sym, ap, _∙_}
+use Prim.Native.Nat.{_-_, _≤_}
+use native.Mathlib.Omega.{arith}
+use borrow.Author.Needs.{needs}
+use mir.Facts.{toZ-ofZ}
+use mir.Syntax.{w32}
+use mir.Val.{SFits, toZ}
+use Rattle.calls.specs.Digest.{digest, rescoredTimes}
+use Rattle.calls.proofs.Laws.Digest.{rescoredTimes-none, rescored-more, rescored-end}
+use Rattle.calls.proofs.ladlepine_rescore.Statement.{statement}
+use Rattle.calls.proofs.ladlepine_rescore.Tie as tie
+
+abbrev Inv-loop : tie.InvT-loop
+Inv-loop list degree cluster weight state times t₀ i₀ t i = (i ≤ times) × (t ≡ rescoredTimes i cluster (toZ w32 weight) state t₀)
+
+abbrev μ-loop : tie.MeasureT-loop
+μ-loop list degree cluster weight state times t₀ i₀ t i = times - i
+
+weight-fits : (s : tie.Start Inv-loop μ-loop) → SFits w32 (s .args .weight)
+weight-fits s = s .fits .weight
+
+build-requires : tie.Need-build-requires Inv-loop μ-loop
+build-requires c κs = tt
+
+loop-holds : tie.Need-loop-holds Inv-loop μ-loop
+loop-holds c = (omega arith, sym (rescoredTimes-none _ _ _ _))
+
+rescore-requires : tie.Need-rescore-requires Inv-loop μ-loop
+rescore-requires c κs = tt
+
+add-i : tie.Need-add-i Inv-loop μ-loop
+add-i c = search needs
+
+loop-less : tie.Need-loop-less Inv-loop μ-loop
+loop-less c = search needs
+
+loop-again : tie.Need-loop-again Inv-loop μ-loop
+loop-again c =
+    let at-loop = c .before .before .before in
+    let changed = c .before .rescore in
+    (omega arith, rescored-more _ _ _ _ (at-loop .loop .i) (at-loop .loop .t) (changed .result) (at-loop .loop .inv .1) (changed .ensures))
+
+digest-of-requires : tie.Need-digest-of-requires Inv-loop μ-loop
+digest-of-requires c κs = tt
+
+returns : tie.Need-returns Inv-loop μ-loop
+returns c =
+    let at-loop = c .before .before in
+    let build = at-loop .before .before in
+    let start = build .before .before in
+    let a = start .args in
+    let end : at-loop .loop .i ≡ a .times = omega arith in
+    let score = toZ-ofZ (weight-fits start) in
+    let built = build .build in
+    c .digest-of .ensures
+    ∙ ap digest
+    (rescored-end _ _ (a .cluster) _ _ (a .state) (built .result) _ (at-loop .loop .t) end score (built .ensures) (at-loop .loop .inv .1))
+
+pub ladlepine-rescore-spec : {M : Type 1} → statement M
+ladlepine-rescore-spec =
+    tie.close
+    (tie.spec
+    Inv-loop
+    μ-loop
+    build-requires
+    loop-holds
+    rescore-requires
+    add-i
+    loop-less
+    loop-again
+    digest-of-requires
+    returns)

@@ -1,0 +1,56 @@
+-- `calls::row_digest` meets its contract: each sum is one `wrap` of the definition. Assumes nothing.
+use mathlib.Core.Path.{ap, ap₂, _∙_}
+use borrow.Author.Needs.{needs}
+use mir.Facts.{toZ-ofZ}
+use mir.Syntax.{w64}
+use mir.Val.{SFits, ofZ}
+use Rattle.calls.specs.Digest.{wrap}
+use Rattle.calls.proofs.row_digest.Statement.{statement}
+use Rattle.calls.proofs.row_digest.Tie as tie
+
+best-fits : (s : tie.Start) → SFits w64 (s .args .best)
+best-fits s = s .fits .best
+
+wrapping-add-u64-requires : tie.Need-wrapping-add-u64-requires
+wrapping-add-u64-requires c κs = search needs
+
+wrapping-add-u64-requires-2 : tie.Need-wrapping-add-u64-requires-2
+wrapping-add-u64-requires-2 c κs = search needs
+
+bits-of-requires : tie.Need-bits-of-requires
+bits-of-requires c κs = search needs
+
+wrapping-add-u64-requires-3 : tie.Need-wrapping-add-u64-requires-3
+wrapping-add-u64-requires-3 c κs = search needs
+
+wrapping-add-u64-requires-4 : tie.Need-wrapping-add-u64-requires-4
+wrapping-add-u64-requires-4 c κs = search needs
+
+wrapping-add-u64-requires-5 : tie.Need-wrapping-add-u64-requires-5
+wrapping-add-u64-requires-5 c κs = search needs
+
+returns : tie.Need-returns
+returns c =
+    let rest = c .before .before in
+    let bits = rest .before in
+    let members = bits .before in
+    let counts = members .before in
+    let start = counts .before in
+    let best = bits .bits-of .ensures ∙ ap (ofZ w64) (toZ-ofZ (best-fits start)) in
+    c .wrapping-add-u645 .ensures
+    ∙ ap₂ wrap
+    (c .before .wrapping-add-u644 .ensures
+    ∙ ap₂ wrap (counts .wrapping-add-u64 .ensures) (members .wrapping-add-u642 .ensures))
+    (rest .wrapping-add-u643 .ensures ∙ ap (wrap (start .args .mark)) best)
+
+pub row-digest-spec : {M : Type 1} → statement M
+row-digest-spec =
+    tie.close
+    (tie.spec
+    wrapping-add-u64-requires
+    wrapping-add-u64-requires-2
+    bits-of-requires
+    wrapping-add-u64-requires-3
+    wrapping-add-u64-requires-4
+    wrapping-add-u64-requires-5
+    returns)

@@ -1,0 +1,2 @@
+-- the digest of a table
+pub mod Digest

@@ -1,0 +1,93 @@
+// Thin functions for programs in other languages, to measure with: a table is too large to hand over, so each hands back a digest of it.
+// Cites `specs/Digest.antt`.
+//     ladlepine_build       the digest of a built table
+//     ladlepine_rescore     the digest of a built table after a number of rescorings of one cluster
+use std::num::wrapping_add_u64;
+use table::Table;
+use table::build;
+use table::rescore;
+ghost use mathlib.Core.Path.{_≡_};
+ghost use mir.Syntax.{w64};
+ghost use mir.Val.{ofZ};
+ghost use Rattle.table.specs.Build.{buildTable};
+ghost use Rattle.calls.specs.Digest.{rowDigest, digest, rescoredTimes};
+
+// The last number of 64 bits, which stands for -1.
+const MINUS_ONE: u64 = 18446744073709551615;
+
+// How many rows a table has room for.
+const ROW_CAP: usize = 128;
+
+// The 64 bits of a signed number in two's complement.
+fn bits_of(z: i64) -> u64
+    ensures { λ n. ⌜ n ≡ ofZ w64 z ⌝ }
+{
+    if 0 <= z {
+        return z as u64;
+    }
+    MINUS_ONE - ((-1 - z) as u64)
+}
+
+// The results of one row added up, past 64 bits from the start again.
+fn row_digest(length: u64, count: u64, mark: u8, best: i64, low: u64, high: u64) -> u64
+    ensures { λ r. ⌜ r ≡ rowDigest length count mark best low high ⌝ }
+{
+    let counts = wrapping_add_u64(length, count);
+    let members = wrapping_add_u64(low, high);
+    let rest = wrapping_add_u64(mark as u64, bits_of(best));
+    wrapping_add_u64(wrapping_add_u64(counts, members), rest)
+}
+
+// The results of all rows added up.
+fn digest_of(t: Table) -> u64
+    ensures { λ r. ⌜ r ≡ digest t ⌝ }
+{
+    let mut sum = 0;
+    let mut i = 0;
+    while i < ROW_CAP {
+        let best = t.bests[i];
+        let row = row_digest(
+            t.lengths[i],
+            t.counts[i],
+            t.marks[i],
+            best,
+            t.members_low[i],
+            t.members_high[i],
+        );
+        sum = wrapping_add_u64(sum, row);
+        i += 1;
+    }
+    sum
+}
+
+// The digest of the table that a build of `list` hands back.
+#[no_mangle]
+pub extern "C" fn ladlepine_build(list: &[u8], degree: u32) -> u64
+    ensures { λ r. ⌜ r ≡ digest (buildTable (now (list .entry)) degree .table) ⌝ }
+{
+    let built = build(list, degree);
+    digest_of(built.table)
+}
+
+// The digest of the table that a build of `list` hands back, after `times` rescorings of `cluster` to the same weight and state.
+#[no_mangle]
+pub extern "C" fn ladlepine_rescore(
+    list: &[u8],
+    degree: u32,
+    cluster: u64,
+    weight: i32,
+    state: u8,
+    times: u32,
+) -> u64
+    ensures { λ r. ⌜ r ≡ digest (rescoredTimes times cluster weight state (buildTable (now (list .entry)) degree .table)) ⌝ }
+{
+    let built = build(list, degree);
+    let mut t = built.table;
+    let mut i = 0;
+    while i < times {
+        let changed = rescore(t, cluster, weight, state);
+        t = changed.table;
+        i += 1;
+    }
+    digest_of(t)
+}
