@@ -45,5 +45,5 @@ pub mod Writable
 pub mod Written
 -- one outcome of asking for a tree or a text
 pub mod Outcomes
--- what the private functions are proved by
-mod Laws
+-- what the functions are proved by, for the crates above too
+pub mod Laws

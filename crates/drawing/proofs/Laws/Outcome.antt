@@ -5,6 +5,7 @@
 --     text-refused, text-short, text-drawn     so for the text
 --     Drawable t           the table is fit, the leaf set has a row, and its members are a tree
 --     drawable             so it is where nothing is refused
+--     text-fits            its text has 148 bytes at most
 --     tree-requires, text-requires     what copying the members into a room, and writing their text, ask
 --     front-of-text        what the writer of a text leaves
 -- Assumes nothing.
@@ -132,7 +133,7 @@ module _ {t : Table} (d : Drawable t) where
   drawable-writable : Writable (membersOf t) (leafSet t) 1
   drawable-writable = tree-writable (t .degree) (leafSet t) (membersOf t) (members-once t (d .fit)) (members-sound t (d .fit)) (d .tree)
 
-  text-fits : length (drawnText t) ≤ textCap
+  pub text-fits : length (drawnText t) ≤ textCap
   text-fits = omega (arith, drawable-writable .fits, length-append (partBytes (membersOf t) (leafSet t)) (semicolon ∷ []))
 
   -- what the writer of a text leaves, handed the members as the first n of s
