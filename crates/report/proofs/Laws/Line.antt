@@ -267,17 +267,16 @@ module _ (l : List ℕ) (d : ℕ) where
         let put = e ∙ ap (sets room 0) (f .front) ∙ stored in
         rw (le-leb (length out) (length room) long) (ap₂ wroteOf (ap Done (f .told)) put)
 
-    pub line-told : {n : ℕ} {m : List ℕ} → wroteOf (Done n) m ≡ lineInto l d room → n ≤ length room
+    pub line-told : {a : Answer} {n : ℕ} {m : List ℕ} → wroteOf a m ≡ lineInto l d room → a ≡ Done n → n ≤ length room
     unfolding lineInto
-    line-told {n} {m} e = go (decLe (length (lineOf l d)) (length room))
+    line-told {n = n} e r = go (decLe (length (lineOf l d)) (length room))
       where
+        told : n ≡ lineInto l d room .sent .told
+        told = sym (ap (λ (x : Answer). sentOf x .told) r) ∙ ap (λ (w : Wrote). w .sent .told) e
+
         go : Dec (length (lineOf l d) ≤ length room) → n ≤ length room
-        go (yes h) =
-            let q = ap (λ (w : Wrote). w .sent .told) e in
-            let k = le-leb (length (lineOf l d)) (length room) h in omega (arith, rw k at q)
-        go (no h) =
-            let q = ap (λ (w : Wrote). w .sent .told) e in
-            let k = lt-leb (length (lineOf l d)) (length room) (omega arith) in omega (arith, rw k at q)
+        go (yes h) = let k = le-leb (length (lineOf l d)) (length room) h in omega (arith, rw k at told)
+        go (no h) = let k = lt-leb (length (lineOf l d)) (length room) (omega arith) in omega (arith, rw k at told)
 
     pub line-only : (a b : Answer) (m k : List ℕ) → wroteOf a m ≡ lineInto l d room → wroteOf b k ≡ lineInto l d room → (a ≡ b) × (m ≡ k)
     line-only a b m k p q = wroteOf-inj a b m k (p ∙ sym q)
