@@ -1,0 +1,28 @@
+//! A comparison program for cluster tables, written from document 01 by
+//! trying sets of clusters. `main.rs` holds the commands; `bin/mock.rs` is a
+//! stand-in for the program under test, for trying out the comparison itself.
+
+pub mod answer;
+pub mod blocks;
+pub mod broken;
+pub mod cases;
+pub mod compare;
+pub mod coverage;
+pub mod facts;
+pub mod formulas;
+pub mod limits;
+pub mod lists;
+pub mod malformed;
+pub mod newick;
+pub mod prng;
+pub mod records;
+pub mod refusals;
+pub mod rules;
+pub mod selfcheck;
+pub mod solve;
+pub mod special;
+pub mod stream;
+pub mod table;
+pub mod tuples;
+pub mod unbuilt;
+pub mod variants;

@@ -1,0 +1,69 @@
+//! The tree taken out of a table, its text, and the printed line. From
+//! "What is sent back" (the order 8, 7, 8, 11) and "Drawing it" of document 01.
+
+use crate::records::{Refusal, refuse};
+use crate::rules::{children, is_tree};
+use crate::table::Table;
+use crate::variants::Rules;
+
+/// The tree that a table's leaf-set row marks, ascending.
+pub fn drawn_tree(table: &Table, rules: Rules) -> Result<Vec<u32>, Refusal> {
+    if !table.is_fit() {
+        return Err(refuse(8));
+    }
+    marked_tree(table, rules)
+}
+
+/// The same for a table known to be fit.
+fn marked_tree(table: &Table, rules: Rules) -> Result<Vec<u32>, Refusal> {
+    let top = table.row_of(table.leaf_set()).ok_or(refuse(7))?;
+    if table.counts[top] == 0 {
+        return Err(refuse(7));
+    }
+    let is_marked = |i: &usize| table.members[top] >> i & 1 == 1;
+    let marked: Vec<usize> = (0..table.n as usize).filter(is_marked).collect();
+    let members: Vec<u32> = marked.iter().map(|&i| table.clusters[i] as u32).collect();
+    let weight: i64 = marked.iter().map(|&i| table.weights[i] as i64).sum();
+    let all_scored = marked.iter().all(|&i| rules.usable(table.states[i] == 1));
+    let whole = table.clusters[top] as u32;
+    if all_scored && is_tree(&members, whole, table.d, rules) && weight == table.bests[top] {
+        Ok(members)
+    } else {
+        Err(refuse(8))
+    }
+}
+
+pub fn text(members: &[u32]) -> String {
+    let top = members.iter().fold(0, |u, m| u | m);
+    format!("{};", vertex(members, top))
+}
+
+fn vertex(members: &[u32], cluster: u32) -> String {
+    if cluster.count_ones() == 1 {
+        return cluster.trailing_zeros().to_string();
+    }
+    let mut kids = children(members, cluster);
+    kids.sort_by_key(|c| c.trailing_zeros());
+    let parts: Vec<String> = kids.iter().map(|&c| vertex(members, c)).collect();
+    format!("({})", parts.join(","))
+}
+
+/// The line that the program prints for one degree bound, with its line end.
+pub fn line(d: u32, built: Result<&Table, Refusal>, rules: Rules) -> String {
+    let drawn = built.and_then(|t| marked_tree(t, rules).map(|m| (t, m)));
+    match drawn {
+        Err(Refusal { number, position }) if number == 5 || number == 6 => {
+            format!("{d} refused {number} at {position}\n")
+        }
+        Err(refusal) => format!("{d} refused {}\n", refusal.number),
+        Ok((table, members)) => {
+            let top = table.row_of(table.leaf_set()).unwrap();
+            let count = if table.marks[top] == 1 {
+                "many".to_string()
+            } else {
+                table.counts[top].to_string()
+            };
+            format!("{d} {count} {} {}\n", table.bests[top], text(&members))
+        }
+    }
+}

@@ -1,0 +1,70 @@
+//! The eight mistakes of "What students hand in" (document 01), each of which
+//! can be switched on in the expected answers. The fifth entry there has two
+//! sides and makes two variants. A comparison that is any good tells each of
+//! them from the truth.
+
+#[derive(Clone, Copy, PartialEq, Eq, Debug)]
+pub enum Variant {
+    UnscoredAsZero,
+    Greedy,
+    OneChildMore,
+    OrderedTuples,
+    StoppedAsExact,
+    ManyAtLimit,
+    ManyTimesNone,
+    OnlyEditedRow,
+}
+
+pub const ALL: [Variant; 8] = [
+    Variant::UnscoredAsZero,
+    Variant::Greedy,
+    Variant::OneChildMore,
+    Variant::OrderedTuples,
+    Variant::StoppedAsExact,
+    Variant::ManyAtLimit,
+    Variant::ManyTimesNone,
+    Variant::OnlyEditedRow,
+];
+
+impl Variant {
+    pub fn name(self) -> &'static str {
+        match self {
+            Variant::UnscoredAsZero => "unscored-as-zero",
+            Variant::Greedy => "greedy",
+            Variant::OneChildMore => "one-child-more",
+            Variant::OrderedTuples => "ordered-tuples",
+            Variant::StoppedAsExact => "stopped-as-exact",
+            Variant::ManyAtLimit => "many-at-limit",
+            Variant::ManyTimesNone => "many-times-none",
+            Variant::OnlyEditedRow => "only-edited-row",
+        }
+    }
+
+    pub fn named(name: &str) -> Option<Variant> {
+        ALL.into_iter().find(|v| v.name() == name)
+    }
+}
+
+/// The rules in force: those of document 01, or those with one mistake in.
+#[derive(Clone, Copy, Default)]
+pub struct Rules {
+    pub variant: Option<Variant>,
+}
+
+impl Rules {
+    pub const TRUE: Rules = Rules { variant: None };
+
+    pub fn has(self, v: Variant) -> bool {
+        self.variant == Some(v)
+    }
+
+    /// The most children that a member may have under degree bound `d`.
+    pub fn most_children(self, d: u32) -> u32 {
+        if self.has(Variant::OneChildMore) { d } else { d - 1 }
+    }
+
+    /// Whether a listed cluster may stand in a tree.
+    pub fn usable(self, scored: bool) -> bool {
+        scored || self.has(Variant::UnscoredAsZero)
+    }
+}
