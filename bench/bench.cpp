@@ -119,6 +119,19 @@ Line measure(const Bytes &list, uint32_t degree, int repeats) {
     return {build, spread(b).least, spread(ratios), spread(each).middle / build, baseline_tuples(t)};
 }
 
+// How a build grows with its rows: the first 16, 32, 64 and 128 records of a list.
+void print_growth(const std::string &path, int repeats) {
+    const Bytes list = read(path);
+    std::printf("\ngrowth: the first records of %s, microseconds for a build by the proved program\n%6s", path.substr(path.rfind('/') + 1).c_str(), "rows");
+    for (uint32_t degree = 3; degree <= 5; degree++) std::printf(" %9s%u", "d = ", degree);
+    for (size_t rows = 16; rows <= 128; rows *= 2) {
+        const Bytes part(list.begin(), list.begin() + std::ptrdiff_t(std::min(rows * 12, list.size())));
+        std::printf("\n%6zu", part.size() / 12);
+        for (uint32_t degree = 3; degree <= 5; degree++) std::printf(" %10.2f", measure(part, degree, repeats).ours);
+    }
+    std::printf("\n");
+}
+
 }  // namespace
 
 int main(int count, char **words) {
@@ -140,5 +153,6 @@ int main(int count, char **words) {
                         l.ratio.least, l.ratio.most, double(l.tuples) / l.ours, l.rescore_over_build, slow || heavy ? "  missed" : "");
         }
     }
+    print_growth(words[2], repeats);
     std::printf("bars: a build at most %.1f times the C++ program's, a rescoring at most %.1f builds on lists of 64 rows or more; %d missed\n", BUILD_BAR, RESCORE_BAR, missed);
 }
