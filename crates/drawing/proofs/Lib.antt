@@ -33,6 +33,8 @@ pub mod LeafTree
 pub mod DrawnTables
 -- and of the built table of an accepted list
 pub mod DrawnLists
+-- and after any changes
+pub mod DrawnChanges
 -- the texts of the paper's own examples
 pub mod Cases
 -- the child with a taxon, as the writer of a text looks for it

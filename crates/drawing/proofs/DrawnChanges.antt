@@ -1,0 +1,55 @@
+-- What is drawn of a built table after any changes, one after another (document 01, demands 2 and 3): what a fresh build of the changed list
+-- would draw.
+--     rescored-refused-iff     7 is sent back exactly where the changed list has no tree
+--     rescored-drawn-iff       and a tree is drawn exactly where it has one, so that 8 is never sent back
+--     rescored-drawTree, rescored-drawText     the first heaviest tree of the changed list
+-- Assumes nothing.
+use mathlib.Core.Path.{_≡_, ap, _∙_, sym}
+use mathlib.Core.Logic.{_≢_, _↔_}
+use mathlib.Core.Option.{none, some}
+use mathlib.Core.List.{List, []}
+use Prim.Native.Nat.{ℕ}
+use Rattle.cluster.specs.declared.refusal.Refusal.the-variants.{NoTree}
+use Rattle.trees.specs.Rows.{Row}
+use Rattle.trees.specs.Heaviest.{firstHeaviest}
+use Rattle.table.specs.declared.table.Table.{Table}
+use Rattle.table.specs.Listing.{rowsOf}
+use Rattle.table.specs.Build.{buildTable}
+use Rattle.table.proofs.Changes.{changeAll, AcceptedBytes, changes-accepted}
+use Rattle.table.proofs.Theorems.{rescoreAll, rescore-all-is-build}
+use Rattle.drawing.specs.Draw.{drawRefusal, drawTree, drawText}
+use Rattle.drawing.specs.Drawn.{ascending, textOf}
+use Rattle.drawing.proofs.LeafRow.{leaves, treesOf}
+use Rattle.drawing.proofs.DrawnTables.{treeDrawn}
+use Rattle.drawing.proofs.DrawnLists.{build-refused-iff, build-drawn-iff, build-drawTree, build-drawText}
+
+module _ (l : List ℕ) (d : ℕ) (xs : List Row) (k : AcceptedBytes l d) where
+  abbrev after : Table
+  after = rescoreAll (buildTable l d .table) xs
+
+  abbrev changed : List ℕ
+  changed = changeAll l xs
+
+  kept : AcceptedBytes changed d
+  kept = changes-accepted l d xs k
+
+  is-build : after ≡ buildTable changed d .table
+  is-build = rescore-all-is-build l d xs k
+
+  pub rescored-refused-iff : (drawRefusal after ≡ some NoTree) ↔ (treesOf d (rowsOf changed) ≡ [])
+  rescored-refused-iff =
+      let q = build-refused-iff changed d (kept .byte) (kept .accepted) in
+      (λ e. q .0 (sym (ap drawRefusal is-build) ∙ e), λ e. ap drawRefusal is-build ∙ q .1 e)
+
+  pub rescored-drawn-iff : (drawRefusal after ≡ none) ↔ (treesOf d (rowsOf changed) ≢ [])
+  rescored-drawn-iff =
+      let q = build-drawn-iff changed d (kept .byte) (kept .accepted) in
+      (λ e. q .0 (sym (ap drawRefusal is-build) ∙ e), λ n. ap drawRefusal is-build ∙ q .1 n)
+
+  module _ (room : List ℕ) where
+    pub rescored-drawTree : drawTree after room ≡ treeDrawn (firstHeaviest (rowsOf changed) (treesOf d (rowsOf changed))) ascending room
+    rescored-drawTree = ap (λ (t : Table). drawTree t room) is-build ∙ build-drawTree changed d (kept .byte) (kept .accepted) room
+
+    pub rescored-drawText : drawText after room
+        ≡ treeDrawn (firstHeaviest (rowsOf changed) (treesOf d (rowsOf changed))) (λ (ys : List ℕ). textOf ys (leaves (rowsOf changed))) room
+    rescored-drawText = ap (λ (t : Table). drawText t room) is-build ∙ build-drawText changed d (kept .byte) (kept .accepted) room
