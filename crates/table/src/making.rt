@@ -52,10 +52,9 @@ fn made(list: &[u8], n: usize, degree: u32) -> Built
     if placed < n {
         return refused(Refusal::Repeated(placed));
     }
-    let table = again(arranged(listed, order, n, degree), 0);
     Built {
         answer: Answer::Done(0),
-        table,
+        table: again(arranged(listed, order, n, degree), 0),
     }
 }
 

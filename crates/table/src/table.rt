@@ -8,7 +8,6 @@ ghost use Rattle.table.specs.View.{zeroTable};
 // `members_high[i]` for the others. Clusters and counts have 64 bits so that the wider collection's table needs no other code; fitness
 // holds them to 32.
 pub struct Table {
-    pub degree: u32,
     pub rows: usize,
     pub clusters: [u64; 128],
     pub weights: [i32; 128],
@@ -19,6 +18,7 @@ pub struct Table {
     pub bests: [i64; 128],
     pub members_low: [u64; 128],
     pub members_high: [u64; 128],
+    pub degree: u32,
 }
 
 // The table that is all zero: what a refused build hands back.
@@ -26,7 +26,6 @@ pub fn zero_table() -> Table
     ensures { λ t. ⌜ t ≡ zeroTable ⌝ }
 {
     Table {
-        degree: 0,
         rows: 0,
         clusters: [0; 128],
         weights: [0; 128],
@@ -37,5 +36,6 @@ pub fn zero_table() -> Table
         bests: [0; 128],
         members_low: [0; 128],
         members_high: [0; 128],
+        degree: 0,
     }
 }

@@ -104,8 +104,8 @@ pub(crate) fn again(given: Table, cluster: u64) -> Table
 {
     let n = given.rows;
     let degree = given.degree;
-    let starts = starts_of(&given.clusters, n);
     let mut t = given;
+    let starts = starts_of(&t.clusters, n);
     let mut i = 0;
     while i < n {
         if is_inside(cluster, t.clusters[i]) {

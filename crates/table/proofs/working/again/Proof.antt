@@ -18,10 +18,10 @@ use Rattle.table.proofs.working.again.Statement.{statement}
 use Rattle.table.proofs.working.again.Tie as tie
 
 abbrev Inv-loop : tie.InvT-loop
-Inv-loop cluster n degree starts t₀ i₀ t i = Partly t₀ cluster t i
+Inv-loop cluster n degree t₀ starts i₀ t i = Partly t₀ cluster t i
 
 abbrev μ-loop : tie.MeasureT-loop
-μ-loop cluster n degree starts t₀ i₀ t i = n - i
+μ-loop cluster n degree t₀ starts i₀ t i = n - i
 
 -- ---- places
 
@@ -44,7 +44,7 @@ narrow : (c : tie.In-loop Inv-loop μ-loop) → SFits w32 (getD (c .before .loop
 narrow c =
     let at-loop = c .before in
     let s = start at-loop in
-    weight-fits (s .args .t1) (s .args .cluster) (s .pre) (at-loop .loop .t) (at-loop .loop .i) (at-loop .loop .inv) (c .loop-test .taken)
+    weight-fits (s .args .given) (s .args .cluster) (s .pre) (at-loop .loop .t) (at-loop .loop .i) (at-loop .loop .inv) (c .loop-test .taken)
 
 -- ---- needs
 
@@ -52,7 +52,7 @@ starts-of-requires : tie.Need-starts-of-requires Inv-loop μ-loop
 starts-of-requires c κs = c .before .before .before .pre .rising
 
 loop-holds : tie.Need-loop-holds Inv-loop μ-loop
-loop-holds c = let start = c .before .before .before .before in partly-start (start .args .t1) (start .args .cluster) (start .pre)
+loop-holds c = let start = c .before .before .before .before in partly-start (start .args .given) (start .args .cluster) (start .pre)
 
 mul-is-inside : tie.Need-mul-is-inside Inv-loop μ-loop
 mul-is-inside c = omega (arith, room c)
@@ -79,7 +79,7 @@ worked-requires c κs =
     let s = start at-loop in
     let t = at-loop .loop .t in
     let i = at-loop .loop .i in
-    rw (toZ-ofZ (narrow inside)) (ready-row (s .args .t1) (s .args .cluster) (s .pre) t i (at-loop .loop .inv) _ (inside .loop-test .taken) (at-loop .before .starts-of .ensures))
+    rw (toZ-ofZ (narrow inside)) (ready-row (s .args .given) (s .args .cluster) (s .pre) t i (at-loop .loop .inv) _ (inside .loop-test .taken) (at-loop .before .starts-of .ensures))
 
 mul-t : tie.Need-mul-t Inv-loop μ-loop
 mul-t c = omega (arith, room (in-loop (row (c .before .before))))
@@ -131,12 +131,12 @@ loop-again c =
     ⊎-elim
     (λ w.
     let best : SFits w64 (w .18 .result .best) = record { sfits = w .19 .given .1 .1 .1 .0 .1 } in
-    partly-store (s .args .t1) (s .args .cluster) (s .pre) t i (at-loop .loop .inv) (w .18 .result) (inside .loop-test .taken)
+    partly-store (s .args .given) (s .args .cluster) (s .pre) t i (at-loop .loop .inv) (w .18 .result) (inside .loop-test .taken)
     (sym test ∙ w .0 .taken)
-    (w .18 .ensures ∙ ap (λ (z : ℤ). fieldsTally (workedRow (columnsOf t) z i (s .args .t1 .degree))) (toZ-ofZ (narrow inside)))
+    (w .18 .ensures ∙ ap (λ (z : ℤ). fieldsTally (workedRow (columnsOf t) z i (s .args .given .degree))) (toZ-ofZ (narrow inside)))
     _ (toZ-ofZ best) (c .if1 .t) (w .20))
     (λ w.
-    partly-skip (s .args .t1) (s .args .cluster) (s .pre) t (c .if1 .t) i (at-loop .loop .inv) (inside .loop-test .taken)
+    partly-skip (s .args .given) (s .args .cluster) (s .pre) t (c .if1 .t) i (at-loop .loop .inv) (inside .loop-test .taken)
     (sym test ∙ w .0 .left) (w .1))
     (c .if1 .came)
 
@@ -144,7 +144,7 @@ returns : tie.Need-returns Inv-loop μ-loop
 returns c =
     let at-loop = c .before in
     let s = start at-loop in
-    partly-end (s .args .t1) (s .args .cluster) (s .pre) (at-loop .loop .t) (at-loop .loop .i) (at-loop .loop .inv) (c .loop-test .left)
+    partly-end (s .args .given) (s .args .cluster) (s .pre) (at-loop .loop .t) (at-loop .loop .i) (at-loop .loop .inv) (c .loop-test .left)
 
 pub again-spec : {M : Type 1} → statement M
 again-spec =
