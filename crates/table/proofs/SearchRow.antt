@@ -33,7 +33,7 @@ use Rattle.table.specs.declared.tally.Tally.{Tally}
 use Rattle.table.specs.View.{wordValues}
 use Rattle.table.specs.Tally.{tallyOf, underTally}
 use Rattle.table.specs.Searched.{Columns, partAt, partTally, partsOf, sumKind, sumCovers, Below, Searchable}
-use Rattle.table.proofs.Laws.Searched.{parts-within, sumCovers-search, sumCovers-local}
+use Rattle.table.proofs.Laws.Searched.{below-mono, parts-within, sumCovers-search, sumCovers-local}
 use Rattle.table.proofs.CoverSums.{sumCovers-keeps}
 use Rattle.table.proofs.Encoded.{tally-under}
 use Rattle.table.proofs.Held.{Keeps, keeps-counted, keeps-times, Part}
@@ -156,6 +156,8 @@ module _ (limit : ℕ) (k : Columns) (starts : List ℕ) (end R left : ℕ) (s :
       begins = s .begins;
       some = other-pos;
       small = omega (arith, s .small);
+      run = below-mono (k .clusters) (s .rows) _ (2 ^ (hi + 1)) _ _ (pow-mono (omega (arith, is-highest)))
+          (s .begins .each (highest other) (omega (arith, is-highest, next-place))) next-below;
       reach = subst (λ (n : ℕ). next ≤ getD starts n 0) (add-one hi ∙ ap suc is-highest) (le-refl next);
     }
 

@@ -6,7 +6,7 @@
 --     searched-keep            the scored ones keep what sums keep
 --     searched-few             the sum over the covers counts fewer tuples than a word has values
 -- Assumes nothing.
-use mathlib.Core.Path.{subst}
+use mathlib.Core.Path.{_≡_, subst}
 use mathlib.Core.List.{List, map, List·Memᴰ as Mem}
 use Prim.Native.Nat.{ℕ, suc, _^_, _≤_, _<_}
 use native.Mathlib.Decide.{decLt}
@@ -21,7 +21,7 @@ use Rattle.laws.proofs.Taxa.{highest-le}
 use Rattle.trees.specs.Rows.{Entry, cl, sc}
 use Rattle.trees.proofs.Capped.{Res}
 use Rattle.table.specs.View.{wordValues}
-use Rattle.table.specs.Searched.{Columns, partsOf, sumCovers, Searchable}
+use Rattle.table.specs.Searched.{Columns, partsOf, sumCovers, Past, Searchable}
 use Rattle.table.proofs.Laws.Searched.{parts-length}
 use Rattle.table.proofs.CoverSums.{sumCovers-few}
 use Rattle.table.proofs.Held.{Part}
@@ -41,6 +41,13 @@ topOf R = 2 ^ suc (highest R)
 module _ (limit : ℕ) (k : Columns) (starts : List ℕ) (end R : ℕ) (s : Searchable limit k starts end R) where
   pub taxon-fits : highest R < 64
   taxon-fits = highest-fits R (s .some) (s .small)
+
+  -- the last child isn't among the rows below the highest taxon
+  pub start-past : (start : ℕ) → start ≡ getD starts (highest R) 0 → Past (k .clusters) end R start
+  start-past start e = record {
+    within = omega (arith, s .run);
+    less = λ i l. omega (arith, s .begins .each (highest R) (omega (arith, taxon-fits)) .less i (omega arith), highest-le R (s .some));
+  }
 
   pub searched-fall : Descends (map cl (partsOf k end))
   searched-fall = parts-fall limit k (s .readable .cs) end (s .readable .sound)

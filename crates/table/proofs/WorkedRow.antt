@@ -54,6 +54,7 @@ use Rattle.table.proofs.Down.{mem-down, down-mem, mark-down}
 use Rattle.table.proofs.Encoded.{Clear, tally-under}
 use Rattle.table.proofs.Good.{Good, GoodSol, mine, own-disj}
 use Rattle.table.proofs.KeepsFit.{decode, Over, counted-of-good, beneath, worked-is, found-good}
+use Rattle.table.proofs.Laws.Searched.{below-le}
 use Rattle.table.proofs.Laws.Working.{low-mark-is, high-mark-is}
 
 -- ---- the rows beneath
@@ -351,6 +352,9 @@ module _ (k : Columns) (starts : List ℕ) (z : ℤ) (i d : ℕ) (R : Ready k st
     begins = R .begins;
     some = R .some;
     small = R .small;
+    run =
+        below-le (k .clusters) (R .rows) _ _ i
+        (R .begins .each (highest C′) (omega (arith, highest-small C′ (R .some) (R .small)))) (highest-le C′ (R .some));
     reach = reach (decLe i (getD starts (suc (highest C′)) 0));
   }
     where

@@ -5,7 +5,7 @@
 --     sumCovers left rest es    over the covers of `rest` by at most `left` of the scored entries: how many there are, and the sum of the
 --                               products of their counts and keys
 --     clustersDown cs n         the first n clusters, the largest first
---     Rising, Below, Starts     ascending clusters; how many of them are below a number; below each taxon
+--     Rising, Past, Below, Starts     ascending clusters; some of them, and all of them, that are below a number; below each taxon
 --     GoodRow, Sound            a row whose results the search may add up; all the first n rows are such, and ascend
 --     Long, Readable, Searchable     the columns reach far enough; what looking up, and searching, may count on
 -- Assumes nothing.
@@ -92,6 +92,11 @@ pub record Rising (cs : List ℕ) (n : ℕ) : Type 0 where
   pub long : n ≤ length cs
   pub up : (i j : ℕ) → i < j → j < n → getD cs i 0 < getD cs j 0
 
+-- the first r of the n clusters are below v, and the others may be
+pub record Past (cs : List ℕ) (n v r : ℕ) : Type 0 where
+  pub within : r ≤ n
+  pub less : (i : ℕ) → i < r → getD cs i 0 < v
+
 -- r of the first n clusters are below v
 pub record Below (cs : List ℕ) (n v r : ℕ) : Type 0 where
   pub within : r ≤ n
@@ -134,7 +139,7 @@ pub record Readable (limit : ℕ) (k : Columns) (n : ℕ) : Type 0 where
   pub long : Long k n
   pub sound : Sound limit k cs n
 
--- and the first `end` rows lie below the taxon above the highest of `rest`
+-- and the first `end` rows lie below the taxon above the highest of `rest`, all rows below that highest taxon among them
 pub record Searchable (limit : ℕ) (k : Columns) (starts : List ℕ) (end rest : ℕ) : Type 0 where
   pub readable : Readable limit k end
   pub rows : ℕ
@@ -144,4 +149,5 @@ pub record Searchable (limit : ℕ) (k : Columns) (starts : List ℕ) (end rest 
   pub begins : Starts (k .clusters) rows starts
   pub some : 0 < rest
   pub small : rest < wordValues
+  pub run : getD starts (highest rest) 0 ≤ end
   pub reach : end ≤ getD starts (suc (highest rest)) 0

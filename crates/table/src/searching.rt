@@ -17,14 +17,15 @@ ghost use mathlib.Core.List.{[]};
 ghost use Prim.Native.Nat.{_≤_, _<_};
 ghost use lib.ListN.{length};
 ghost use Rattle.table.specs.Tally.{tallyOf};
-ghost use Rattle.table.specs.Searched.{columns, partTally, partsOf, sumCovers, Rising, Below, Starts, Readable, Searchable};
+ghost use Rattle.table.specs.Searched.{columns, partTally, partsOf, sumCovers, Rising, Past, Below, Starts, Readable, Searchable};
 
-// How many of the first `n` rows have a smaller cluster than `value`.
-pub(crate) fn place_below(clusters: &[u64], n: usize, value: u64) -> usize
+// How many of the first `n` rows have a smaller cluster than `value`; the first `past` of them are known to.
+pub(crate) fn place_below(clusters: &[u64], past: usize, n: usize, value: u64) -> usize
     requires { ⌜ Rising (now clusters) n ⌝ }
+    requires { ⌜ Past (now clusters) n value past ⌝ }
     ensures { λ r. ⌜ Below (now (clusters .entry)) n value r ⌝ }
 {
-    let mut low = 0;
+    let mut low = past;
     let mut high = n;
     while low < high {
         let middle = low + (high - low) / 2;
@@ -45,7 +46,7 @@ pub(crate) fn starts_of(clusters: &[u64], n: usize) -> [usize; 65]
     let mut starts = [n; 65];
     let mut taxon: usize = 0;
     while taxon < 64 {
-        starts[taxon] = place_below(clusters, n, 1u64 << taxon);
+        starts[taxon] = place_below(clusters, 0, n, 1u64 << taxon);
         taxon += 1;
     }
     starts
@@ -79,7 +80,8 @@ fn part<'a>(
     }
 }
 
-// Over the covers of `rest` by one of the first `end` rows: the row of `rest` itself, if it is there and scored.
+// Over the covers of `rest` by one of the first `end` rows: the row of `rest` itself, if it is there and scored. It isn't among the first
+// `start`, which are below.
 fn last<'a>(
     clusters: &'a [u64],
     states: &'a [u8],
@@ -88,6 +90,7 @@ fn last<'a>(
     bests: &'a [i64],
     lows: &'a [u64],
     highs: &'a [u64],
+    start: usize,
     end: usize,
     rest: u64,
     limit: u64,
@@ -95,11 +98,12 @@ fn last<'a>(
     requires { ⌜ Readable limit
         (columns (now clusters) (now states) (now counts) (now marks) (now bests) (now lows) (now highs)) end ⌝ }
     requires { ⌜ 0 < rest ⌝ }
+    requires { ⌜ Past (now clusters) end rest start ⌝ }
     ensures { λ r. ⌜ r ≡ tallyOf limit (sumCovers 1 rest (partsOf
         (columns (now (clusters .entry)) (now (states .entry)) (now (counts .entry)) (now (marks .entry))
         (now (bests .entry)) (now (lows .entry)) (now (highs .entry))) end)) ⌝ }
 {
-    let at = place_below(clusters, end, rest);
+    let at = place_below(clusters, start, end, rest);
     if end <= at {
         return none();
     }
@@ -134,6 +138,7 @@ pub(crate) fn search<'a>(
         (columns (now (clusters .entry)) (now (states .entry)) (now (counts .entry)) (now (marks .entry))
         (now (bests .entry)) (now (lows .entry)) (now (highs .entry))) end)) ⌝ }
 {
+    let start = starts[highest(rest) as usize];
     if left == 1 {
         return last(
             clusters,
@@ -143,12 +148,12 @@ pub(crate) fn search<'a>(
             bests,
             lows,
             highs,
+            start,
             end,
             rest,
             limit,
         );
     }
-    let start = starts[highest(rest) as usize];
     let mut sum = none();
     let mut i = end;
     while start < i {

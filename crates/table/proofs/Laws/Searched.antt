@@ -1,5 +1,7 @@
 -- Rows in ascending order, and how many of them lie below a number; the rows as parts, and the sums over covers by them.
+--     past-none                no row is known to be below
 --     Between, between-…       what bisection keeps: the first are below, the last are not
+--     below-le, below-mono     the place is not after a row that isn't below, nor after that of a larger number
 --     Begun, begun-none, begun-more, starts-of-begun     where each highest taxon starts, taxon by taxon
 --     mem-parts, parts-mem, parts-length      the parts of the first rows are those rows
 --     parts-descend            they fall
@@ -12,7 +14,7 @@ use mathlib.Core.Bool.{Bool}
 use mathlib.Core.List.{List, map, Memᴰ·of-map}
 use mathlib.Core.List.{List·Memᴰ as Mem, List·Memᴰ·head as here, List·Memᴰ·tail as there}
 use Prim.Native.Nat.{ℕ, zero, suc, _+_, _*_, _%_, _^_, _≤_, _<_}
-use native.Mathlib.Decide.{ℕ-discrete}
+use native.Mathlib.Decide.{ℕ-discrete, decLe, decLt}
 use native.Mathlib.Nat.{le-refl, one-mul}
 use native.Mathlib.Omega.{arith}
 use lib.Arith.{le-zero}
@@ -31,7 +33,7 @@ use Rattle.trees.proofs.Kind.{overTuples, Lawful, pair-lawful}
 use Rattle.trees.proofs.Leads.{within, coversOf-scored}
 use Rattle.trees.proofs.Search.{search}
 use Rattle.trees.proofs.SearchSum.{search-is}
-use Rattle.table.specs.Searched.{Columns, partAt, partsOf, sumKind, sumCovers, Rising, Below, Starts}
+use Rattle.table.specs.Searched.{Columns, partAt, partsOf, sumKind, sumCovers, Rising, Past, Below, Starts}
 
 -- ---- bisection
 
@@ -43,13 +45,30 @@ pub record Between (cs : List ℕ) (n v low high : ℕ) : Type 0 where
   pub more : (i : ℕ) → high ≤ i → i < n → v ≤ getD cs i 0
 
 module _ (cs : List ℕ) (n v : ℕ) where
-  pub between-whole : Between cs n v 0 n
-  between-whole =
-      record { ordered = omega arith; within = omega arith; less = λ i h. absurd (omega arith); more = λ i h k. absurd (omega arith) }
+  pub past-none : Past cs n v 0
+  past-none = record { within = omega arith; less = λ i h. absurd (omega arith) }
+
+  pub between-past : (low : ℕ) → Past cs n v low → Between cs n v low n
+  between-past low p = record { ordered = p .within; within = omega arith; less = p .less; more = λ i h k. absurd (omega arith) }
 
   pub below-of-between : (low high : ℕ) → Between cs n v low high → high ≤ low → Below cs n v low
   below-of-between low high b h =
       record { within = omega (arith, b .within); less = b .less; more = λ i l k. b .more i (omega arith) k }
+
+  -- a row that isn't below stands at or after the place
+  pub below-le : (r i : ℕ) → Below cs n v r → v ≤ getD cs i 0 → r ≤ i
+  below-le r i b h = go (decLe r i)
+    where
+      go : Dec (r ≤ i) → r ≤ i
+      go (yes l) = l
+      go (no f) = absurd (omega (arith, b .less i (omega arith)))
+
+  pub below-mono : (w r s : ℕ) → v ≤ w → Below cs n v r → Below cs n w s → r ≤ s
+  below-mono w r s h b c = go (decLt s n)
+    where
+      go : Dec (s < n) → r ≤ s
+      go (yes l) = below-le r s b (omega (arith, c .more s (le-refl s) l))
+      go (no f) = omega (arith, b .within)
 
   module _ (up : Rising cs n) where
     rising-le : (i j : ℕ) → i ≤ j → j < n → getD cs i 0 ≤ getD cs j 0

@@ -1,20 +1,21 @@
 -- `table::searching::search` meets its contract. The measure of the calls is the children left, that of the loop the rows left. The
 -- invariant is `Running`: what is in hand is the tally of a result to which the rows left add up to the sum over the covers.
 -- Places are named by functions, from the loop's head or from the row that is added back to the call. Assumes nothing.
-use mathlib.Core.Path.{sym, ap, _∙_}
+use mathlib.Core.Path.{_≡_, sym, ap, _∙_}
 use Prim.Native.Nat.{ℕ, _+_, _-_, _≤_, _<_}
 use native.Mathlib.Omega.{arith}
 use borrow.Author.Needs.{needs}
 use borrow.Fn.Kinds.{In}
 use borrow.Fn.PlainCycle.{Measures, is, falls, and}
 use lib.ListN.{getD}
+use Rattle.laws.specs.Cluster.{highest}
 use Rattle.laws.proofs.Cluster.{le-of-inside}
 use Rattle.laws.proofs.Tests.{true-T}
 use Rattle.table.specs.declared.tally.Tally.{Tally}
 use Rattle.table.specs.View.{wordValues}
 use Rattle.table.specs.Searched.{Columns, columns, Searchable}
 use Rattle.table.proofs.Readable.{LowWords}
-use Rattle.table.proofs.Searchable.{taxon-fits}
+use Rattle.table.proofs.Searchable.{taxon-fits, start-past}
 use Rattle.table.proofs.SearchRow.{Led, Adds, whole-adds, next-place, inner-asks, under-asks, part-adds}
 use Rattle.table.proofs.Running.{Running, running-all, running-ended, running-outside, running-unscored, plus-asks, running-added}
 use Rattle.cluster.proofs.highest.Reads as highest-reads
@@ -46,10 +47,10 @@ search-below t = and 1 search-kinds.ps (falls 1 search-kinds.ps _<_ μ-search t)
 -- what the functions that are called ask and tell
 abbrev claims : ℕ → search-lts.Claims
 claims t = (
-  last-reads.Asked,
-  last-reads.Learnt,
   highest-reads.Asked,
   highest-reads.Learnt,
+  last-reads.Asked,
+  last-reads.Learnt,
   none-reads.Asked,
   none-reads.Learnt,
   is-inside-reads.Asked,
@@ -83,6 +84,9 @@ module _ (t : ℕ) where
   abbrev Reached : Type 0
   Reached = search-lts.After-highest (claims t) (search-at t) search′.Post Inv μ
 
+  abbrev More : Type 0
+  More = search-lts.Else1 (claims t) (search-at t) search′.Post Inv μ
+
   abbrev Loop : Type 0
   Loop = search-lts.At-loop (claims t) (search-at t) search′.Post Inv μ
 
@@ -106,7 +110,7 @@ module _ (t : ℕ) where
   opened c = c .before .before .before .before .before .before .before
 
   abbrev reached : Reached → Start
-  reached c = opened (c .before .before)
+  reached c = opened (c .before)
 
   abbrev known : Loop → Opened
   known c = c .before .before .before .before .before
@@ -140,8 +144,11 @@ module _ (t : ℕ) where
   place : (c : Reached) → c .highest .result < 64
   place c = omega (arith, c .highest .ensures, taxon-fits _ (given (reached c)) _ _ _ (asked (reached c)))
 
-  two : (c : Reached) → 2 ≤ reached c .args .left
-  two c = omega (arith, reached c .pre .1 .1 .0, c .before .if1 .left)
+  start-is : (c : Reached) → let starts = reached c .args .starts .now in getD starts (c .highest .result) 0 ≡ getD starts (highest (reached c .args .rest)) 0
+  start-is c = ap (λ (h : ℕ). getD (reached c .args .starts .now) h 0) (c .highest .ensures)
+
+  two : (c : More) → 2 ≤ reached (c .before .before) .args .left
+  two c = omega (arith, reached (c .before .before) .pre .1 .1 .0, c .if1 .left)
 
   few-rows : (c : Loop) → start c .args .end ≤ 128
   few-rows c = let q = asked (start c) in omega (arith, q .within, q .capped)
@@ -192,7 +199,11 @@ module _ (t : ℕ) where
   -- ---- before the loop
 
   last-requires : search-lts.Need-last-requires (claims t) (search-at t) search′.Post Inv μ
-  last-requires c κs = let q = asked (opened (c .before)) in (q .readable, q .some)
+  last-requires c κs =
+      let found = c .before .before in
+      let s = reached found in
+      let q = asked s in
+      (q .readable, (q .some, start-past _ (given s) _ _ _ q _ (start-is found)))
 
   returns : search-lts.Need-returns (claims t) (search-at t) search′.Post Inv μ
   returns c = rw (c .before .if1 .taken) (c .last .ensures)
@@ -214,10 +225,9 @@ module _ (t : ℕ) where
 
   loop-holds : search-lts.Need-loop-holds (claims t) (search-at t) search′.Post Inv μ
   loop-holds c =
-      let found = c .before .before in
+      let found = c .before .before .before in
       let s = reached found in
-      running-all _ (given s) _ _ _ _ (asked s) _ (two found)
-      (ap (λ (h : ℕ). getD (s .args .starts .now) h 0) (found .highest .ensures)) _ (c .none .ensures)
+      running-all _ (given s) _ _ _ _ (asked s) _ (two (c .before)) (start-is found) _ (c .none .ensures)
 
   -- ---- the next row
 
@@ -296,7 +306,7 @@ module _ (t : ℕ) where
       let p = c .before in
       let at = part-row p in
       let s = start (turn at) in
-      let m = two (turn at .before .before .before) in
+      let m = two (turn at .before .before) in
       let inner = inner-asks _ (given s) _ _ _ (s .args .left) (asked s) _ (led at) (p .before .if4 .left) _ (p .highest2 .ensures) in
       (omega (arith, s .pre .0, m), (inner, (omega (arith, m), omega (arith, s .pre .1 .1 .1))))
 
@@ -350,12 +360,12 @@ module _ (t : ℕ) where
 
 pub +search-spec : {M : Type 1} → statement M
 +search-spec = close μ-search λ t. search-lts.spec (claims t) (search-at t) search′.Post Inv μ
-    (last-requires t)
-    (returns t)
     (highest-requires t)
     (cast-start t)
     (mul-start t)
     (shared-slice-read-start t)
+    (last-requires t)
+    (returns t)
     (none-requires t)
     (loop-holds t)
     (sub-i t)

@@ -30,7 +30,7 @@ returns c =
     let placed = c .before .before in
     let r = start placed .pre in
     c .none .ensures
-    ∙ missing-is _ (given (start placed)) _ _ (r .0 .sound) _ (r .1) _ (placed .place-below .ensures) (c .before .if1 .taken)
+    ∙ missing-is _ (given (start placed)) _ _ (r .0 .sound) _ (r .1 .0) _ (placed .place-below .ensures) (c .before .if1 .taken)
 
 mul-if2 : tie.Need-mul-if2
 mul-if2 c = search needs
@@ -47,7 +47,7 @@ returns-2 c =
     let placed = there .before in
     let r = start placed .pre in
     c .none2 .ensures
-    ∙ other-is _ (given (start placed)) _ _ (r .0 .sound) _ (r .1) _ (placed .place-below .ensures) (there .if1 .left)
+    ∙ other-is _ (given (start placed)) _ _ (r .0 .sound) _ (r .1 .0) _ (placed .place-below .ensures) (there .if1 .left)
     (c .before .if2 .taken)
 
 shared-slice-read-if3 : tie.Need-shared-slice-read-if3
@@ -63,7 +63,7 @@ returns-3 c =
     let placed = there .before in
     let r = start placed .pre in
     c .none3 .ensures
-    ∙ unscored-is _ (given (start placed)) _ _ (r .0 .sound) _ (r .1) _ (placed .place-below .ensures) (there .if1 .left)
+    ∙ unscored-is _ (given (start placed)) _ _ (r .0 .sound) _ (r .1 .0) _ (placed .place-below .ensures) (there .if1 .left)
     (equal .if2 .left) (c .before .if3 .taken)
 
 part-requires : tie.Need-part-requires
@@ -76,7 +76,7 @@ returns-4 c =
     let placed = there .before in
     let r = start placed .pre in
     c .part .ensures
-    ∙ found-is _ (given (start placed)) _ _ (r .0 .sound) _ (r .1) _ (placed .place-below .ensures) (there .if1 .left)
+    ∙ found-is _ (given (start placed)) _ _ (r .0 .sound) _ (r .1 .0) _ (placed .place-below .ensures) (there .if1 .left)
     (words placed) (equal .if2 .left) (c .before .if3 .left)
 
 pub last-spec : {M : Type 1} → statement M

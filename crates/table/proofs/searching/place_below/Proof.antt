@@ -2,18 +2,18 @@
 -- aren't. The measure is how many are undecided. Assumes nothing.
 use Prim.Native.Nat.{_-_}
 use native.Mathlib.Omega.{arith}
-use Rattle.table.proofs.Laws.Searched.{Between, between-whole, between-above, between-below, below-of-between}
+use Rattle.table.proofs.Laws.Searched.{Between, between-past, between-above, between-below, below-of-between}
 use Rattle.table.proofs.searching.place_below.Statement.{statement}
 use Rattle.table.proofs.searching.place_below.Tie as tie
 
 abbrev Inv-loop : tie.InvT-loop
-Inv-loop clusters n value low₀ high₀ low high = Between clusters n value low high
+Inv-loop clusters past n value low₀ high₀ low high = Between clusters n value low high
 
 abbrev μ-loop : tie.MeasureT-loop
-μ-loop clusters n value low₀ high₀ low high = high - low
+μ-loop clusters past n value low₀ high₀ low high = high - low
 
 loop-holds : tie.Need-loop-holds Inv-loop μ-loop
-loop-holds c = between-whole _ _ _
+loop-holds c = between-past _ _ _ _ (c .pre .1)
 
 sub-middle : tie.Need-sub-middle Inv-loop μ-loop
 sub-middle c = omega arith
@@ -36,7 +36,7 @@ loop-less c = omega arith
 loop-again : tie.Need-loop-again Inv-loop μ-loop
 loop-again c =
     let at-loop = c .before .before .before in
-    between-above _ _ _ (at-loop .before .pre) _ _ _ (at-loop .loop .inv) (omega arith) (c .if1 .taken)
+    between-above _ _ _ (at-loop .before .pre .0) _ _ _ (at-loop .loop .inv) (omega arith) (c .if1 .taken)
 
 loop-less-2 : tie.Need-loop-less-2 Inv-loop μ-loop
 loop-less-2 c = omega arith
@@ -44,7 +44,7 @@ loop-less-2 c = omega arith
 loop-again-2 : tie.Need-loop-again-2 Inv-loop μ-loop
 loop-again-2 c =
     let at-loop = c .before .before .before in
-    between-below _ _ _ (at-loop .before .pre) _ _ _ (at-loop .loop .inv) (omega arith) (omega arith) (c .if1 .left)
+    between-below _ _ _ (at-loop .before .pre .0) _ _ _ (at-loop .loop .inv) (omega arith) (omega arith) (c .if1 .left)
 
 returns : tie.Need-returns Inv-loop μ-loop
 returns c = below-of-between _ _ _ _ _ (c .before .loop .inv) (c .loop-test .left)

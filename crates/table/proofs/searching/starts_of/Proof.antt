@@ -2,7 +2,7 @@
 -- The measure is the taxa left. Assumes nothing.
 use Prim.Native.Nat.{_-_}
 use native.Mathlib.Omega.{arith}
-use Rattle.table.proofs.Laws.Searched.{Begun, begun-none, begun-more, starts-of-begun}
+use Rattle.table.proofs.Laws.Searched.{past-none, Begun, begun-none, begun-more, starts-of-begun}
 use Rattle.table.proofs.searching.starts_of.Statement.{statement}
 use Rattle.table.proofs.searching.starts_of.Tie as tie
 
@@ -19,7 +19,7 @@ shl-place-below : tie.Need-shl-place-below Inv-loop μ-loop
 shl-place-below c = omega arith
 
 place-below-requires : tie.Need-place-below-requires Inv-loop μ-loop
-place-below-requires c κs = c .before .before .before .pre
+place-below-requires c κs = (c .before .before .before .pre, past-none _ _ _)
 
 mul-starts : tie.Need-mul-starts Inv-loop μ-loop
 mul-starts c = omega arith
