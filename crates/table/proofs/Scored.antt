@@ -134,6 +134,10 @@ module _ (t : Table) (c : ℕ) (z : ℤ) (s : ℕ) (sized : Sized t) (fit : T (i
       ap₂ (λ (cs : List ℕ) (es : List (Entry Result)). tableOf (t .degree) (again (workedOut narrow (t .degree) cs) c es))
       (sym (clusters-are t (t .rows))) (score-entries (t .rows) (omega arith))
 
+  -- as the code has it: the weight through its bits
+  pub score-done : (w : ℤ) → w ≡ z → (u : Table) → u ≡ againTable (withScore t i w s) c → u ≡ newTable t c z s
+  score-done w e u q = q ∙ ap (λ (v : ℤ). againTable (withScore t i v s) c) e ∙ score-again
+
   score-sized : Sized new
   score-sized = record {
     clusters = sized .clusters;

@@ -19,7 +19,7 @@ use Rattle.table.specs.Rescore.{isScore, hasRow}
 use Rattle.table.specs.Working.{Sized}
 use Rattle.table.proofs.Laws.Fit.{FitTable, isFit→}
 use Rattle.table.proofs.Laws.Rescore.{rescore-unfit, rescore-no-row, rescore-bad-score, rescore-done}
-use Rattle.table.proofs.Scored.{row-missing, row-listed, row-found, score-workable, score-again}
+use Rattle.table.proofs.Scored.{row-missing, row-listed, row-found, score-workable, score-done}
 use Rattle.table.proofs.rescoring.rescore.Statement.{statement}
 use Rattle.table.proofs.rescoring.rescore.Tie as tie
 
@@ -120,8 +120,8 @@ returns-4 c =
     let found = row-found (s .args .given) (capped f) (s .args .cluster) _ (row .ensures) (at .if2 .left) in
     rescore-done (s .args .given) (s .args .cluster) (s .args .weight) (s .args .state) (fit f) (listed at)
     (sym (score (c .before .before)) ∙ not-false _ (c .before .if3 .left)) (c .again .result)
-    (rw (toZ-ofZ (s .fits .weight)) at (c .again .ensures)
-    ∙ score-again (s .args .given) (s .args .cluster) (s .args .weight) (s .args .state) (sized s) (true-T (fit f)) (row .result) (at .if2 .left) found)
+    (score-done (s .args .given) (s .args .cluster) (s .args .weight) (s .args .state) (sized s) (true-T (fit f)) (row .result) (at .if2 .left)
+    found _ (toZ-ofZ (s .fits .weight)) (c .again .result) (c .again .ensures))
 
 pub rescore-spec : {M : Type 1} → statement M
 rescore-spec =
