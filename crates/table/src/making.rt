@@ -54,7 +54,17 @@ fn made(list: &[u8], n: usize, degree: u32) -> Built
     }
     Built {
         answer: Answer::Done(0),
-        table: again(arranged(listed, order, n, degree), 0),
+        table: again(
+            arranged(
+                &listed.clusters,
+                &listed.weights,
+                &listed.states,
+                &order.places,
+                n,
+                degree,
+            ),
+            0,
+        ),
     }
 }
 

@@ -181,13 +181,13 @@ module _ {l : List ℕ} {n : ℕ} {s : Listed} {o : Order} (d : ℕ) (known : In
     once : (i : ℕ) → i < n → repeats l i ≡ false
     once i h = first-before (repeats l) 0 n i (omega arith) (omega (arith, repeat-is l 0 n, none-repeated))
 
-    pub made-within : n ≤ rowCap → Within o n
+    pub made-within : n ≤ rowCap → Within (o .places) n
     made-within room = record { room = room; each = known .order .within all-placed }
 
     as-read : (j : ℕ) → j < n → rowFrom s (getD (o .places) j 0) ≡ rowIn l (getD (o .places) j 0)
     as-read j h = known .read .rows (getD (o .places) j 0) (omega (arith, all-read, known .order .within all-placed j h))
 
-    arranged-is : arrangedTable s o n d ≡ tableOf d (map unworked (rowsTo l n))
+    arranged-is : arrangedTable (rowFrom s) (o .places) n d ≡ tableOf d (map unworked (rowsTo l n))
     arranged-is =
         ap (λ (rs : List Row). tableOf d (map unworked rs))
         (through-ext (rowFrom s) (rowIn l) (o .places) n as-read ∙ known .order .rows all-placed l has-clusters)
@@ -201,7 +201,7 @@ module _ {l : List ℕ} {n : ℕ} {s : Listed} {o : Order} (d : ℕ) (known : In
         rules = row-rules l byte n kept;
       }
 
-      pub made-workable : Workable (arrangedTable s o n d) 0
+      pub made-workable : Workable (arrangedTable (rowFrom s) (o .places) n d) 0
       made-workable = rw arranged-is (workable d (rowsTo l n) rows (ready .low) (ready .high))
 
       accepted : recordRefusal l n ≡ none
@@ -211,7 +211,7 @@ module _ {l : List ℕ} {n : ℕ} {s : Listed} {o : Order} (d : ℕ) (known : In
       rows-are : rowsTo l n ≡ rowsOf l
       rows-are = ap (rowsTo l) (let e : n ≡ length l / recordBytes = omega (arith, ready .whole) in e)
 
-      pub made-accepted : (t : Table) → t ≡ againTable (arrangedTable s o n d) 0
+      pub made-accepted : (t : Table) → t ≡ againTable (arrangedTable (rowFrom s) (o .places) n d) 0
           → record { sent = sentOf (Done 0); table = t } ≡ madeOf l d (recordRefusal l n)
       made-accepted t e =
           let built = e ∙ ap (λ (u : Table). againTable u 0) arranged-is ∙ again-is d (rowsTo l n) rows in

@@ -46,27 +46,29 @@ refused-requires-2 c κs = search needs
 returns-2 : tie.Need-returns-2
 returns-2 c = c .refused2 .ensures ∙ sym (made-repeated _ (in-order (c .before .before)) (c .before .if2 .taken))
 
+-- past the second all are placed
+abbrev placed : tie.After-arranged-arg4 → tie.Else2
+placed c = c .before .before .before .before .before .before
+
+abbrev start : tie.Else2 → tie.Start
+start c = c .before .before .before .before .before .before .before
+
 arranged-requires : tie.Need-arranged-requires
 arranged-requires c κs =
-    let at-read = c .before .before .before .before .before in
-    let start = at-read .before .before in
-    made-within (start .args .degree) (in-order (c .before)) (c .if2 .left) (start .pre .room)
+    let p = placed c in
+    made-within (start p .args .degree) (in-order (p .before)) (p .if2 .left) (start p .pre .room)
 
 again-requires : tie.Need-again-requires
 again-requires c κs =
-    let at-ordered = c .before .before in
-    let at-read = at-ordered .before .before .before .before in
-    let start = at-read .before .before in
+    let p = placed (c .before) in
     rw (c .arranged .ensures)
-    (made-workable (start .args .degree) (in-order at-ordered) (c .before .if2 .left) (bytes at-read) (start .pre))
+    (made-workable (start p .args .degree) (in-order (p .before)) (p .if2 .left) (bytes (p .before .before .before .before .before)) (start p .pre))
 
 returns-3 : tie.Need-returns-3
 returns-3 c =
-    let at-ordered = c .before .before .before in
-    let at-read = at-ordered .before .before .before .before in
-    let start = at-read .before .before in
+    let p = placed (c .before .before) in
     let worked = c .again .ensures ∙ ap (λ (t : Table). againTable t 0) (c .before .arranged .ensures) in
-    made-accepted (start .args .degree) (in-order at-ordered) (c .before .before .if2 .left) (bytes at-read) (start .pre)
+    made-accepted (start p .args .degree) (in-order (p .before)) (p .if2 .left) (bytes (p .before .before .before .before .before)) (start p .pre)
     (c .again .result) worked
 
 pub made-spec : {M : Type 1} → statement M
