@@ -1,15 +1,14 @@
 // Whether a table is fit, whatever it holds. A row is copied out of the arrays once; its marks are walked by their set bits alone.
 // Cites `specs/Fit.antt`, and `specs/Fitness.antt` for the private functions.
 //     is_fit           every sentence of document 01's "fit"
-//     Fields, row_at   one row by value
+//     Fields           one row by value
 //     is_record        cluster, weight and state keep the record rules
 //     is_nothing, is_blank, is_empty     no marks, mark and best; every result zero; the whole row zero
 //     is_length, is_mark, is_ranged      the ranges of the results
 //     has_mark, is_word_fit, is_light, is_told     what the count says of marks and best
-//     is_row_fit, is_each_fit     one row; every row
+//     is_row_fit       one of the rows
 //     is_rising        the clusters ascend
-//     is_blank_past    the rows past the number are all zero
-//     has_fit_rows     all three
+//     is_row_right, has_right_rows     a row is fit, or past the number and all zero; every row is so
 use crate::limits::COUNT_MAX;
 use crate::limits::DEGREE_HIGH;
 use crate::limits::DEGREE_LOW;
@@ -28,15 +27,14 @@ use cluster::is_kept;
 use cluster::is_single;
 use cluster::size;
 ghost use mathlib.Core.Path.{_≡_};
-ghost use Prim.Native.Nat.{suc, _-_, _≤_, _<_};
+ghost use Prim.Native.Nat.{_≤_, _<_};
 ghost use lib.ListN.{length};
 ghost use Rattle.laws.specs.Limits.{narrow};
-ghost use Rattle.laws.specs.Lists.{every};
-ghost use Rattle.table.specs.View.{rowCap, entriesOf};
-ghost use Rattle.table.specs.Fit.{hasMark, isBlank, isEmpty, keepsRules, isRanged, isTold, fitEntry, blankFrom, isFit};
+ghost use Rattle.table.specs.View.{rowCap};
+ghost use Rattle.table.specs.Fit.{hasMark, isBlank, isEmpty, keepsRules, isRanged, isTold, fitEntry, isFit};
 ghost use Rattle.table.specs.Searched.{clustersDown, Rising};
-ghost use Rattle.table.specs.Fitness.{arrays, fieldsAt, listedIn, resultIn, entryIn, isNothing, isLength, isMark, isLight};
-ghost use Rattle.table.specs.Fitness.{isRising, everyBit, isMarkFit, hasFitRows, Reach, Placed};
+ghost use Rattle.table.specs.Fitness.{listedIn, resultIn, entryIn, isNothing, isLength, isMark, isLight};
+ghost use Rattle.table.specs.Fitness.{isRising, everyBit, isMarkFit, isRowRight, hasRightRows, Placed};
 
 // One row by value: element i of each array.
 struct Fields {
@@ -49,37 +47,6 @@ struct Fields {
     best: i64,
     low: u64,
     high: u64,
-}
-
-// Row `i` of the arrays.
-fn row_at<'a>(
-    clusters: &'a [u64],
-    weights: &'a [i32],
-    states: &'a [u8],
-    lengths: &'a [u64],
-    counts: &'a [u64],
-    marks: &'a [u8],
-    bests: &'a [i64],
-    lows: &'a [u64],
-    highs: &'a [u64],
-    i: usize,
-) -> Fields
-    requires { ⌜ Reach (arrays (now clusters) (now weights) (now states) (now lengths) (now counts) (now marks) (now bests) (now lows) (now highs)) (suc i) ⌝ }
-    ensures { λ r. ⌜ r ≡ fieldsAt (arrays (now (clusters .entry)) (now (weights .entry)) (now (states .entry)) (now (lengths .entry)) (now (counts .entry)) (now (marks .entry)) (now (bests .entry)) (now (lows .entry)) (now (highs .entry))) i ⌝ }
-{
-    let weight = weights[i];
-    let best = bests[i];
-    Fields {
-        cluster: clusters[i],
-        weight,
-        state: states[i],
-        length: lengths[i],
-        count: counts[i],
-        mark: marks[i],
-        best,
-        low: lows[i],
-        high: highs[i],
-    }
 }
 
 // Whether cluster, weight and state keep the record rules. The cluster is held to 32 bits before it is cast.
@@ -284,134 +251,44 @@ fn is_rising(clusters: &[u64], n: usize) -> bool
     true
 }
 
-// Whether each of the first `n` rows is fit.
-fn is_each_fit<'a>(
-    clusters: &'a [u64],
-    weights: &'a [i32],
-    states: &'a [u8],
-    lengths: &'a [u64],
-    counts: &'a [u64],
-    marks: &'a [u8],
-    bests: &'a [i64],
-    lows: &'a [u64],
-    highs: &'a [u64],
-    n: usize,
-) -> bool
-    requires { ⌜ Reach (arrays (now clusters) (now weights) (now states) (now lengths) (now counts) (now marks) (now bests) (now lows) (now highs)) n ⌝ }
-    requires { ⌜ Rising (now clusters) n ⌝ }
-    requires { ⌜ n ≤ rowCap ⌝ }
-    ensures { λ b. ⌜ b ≡ every (fitEntry narrow (clustersDown (now (clusters .entry)) n)) (entriesOf (arrays (now (clusters .entry)) (now (weights .entry)) (now (states .entry)) (now (lengths .entry)) (now (counts .entry)) (now (marks .entry)) (now (bests .entry)) (now (lows .entry)) (now (highs .entry))) n) ⌝ }
+// Whether row `i` is fit where it is one of the first `n`, and all zero where it is past them.
+fn is_row_right(clusters: &[u64], n: usize, i: usize, row: Fields) -> bool
+    requires { ⌜ (i < n → Placed (now clusters) n i row) ⌝ }
+    ensures { λ b. ⌜ b ≡ isRowRight (now (clusters .entry)) n i (entryIn row) ⌝ }
 {
-    let mut i = n;
+    if n <= i {
+        return is_empty(row);
+    }
+    is_row_fit(clusters, n, i, row)
+}
+
+// Whether each of the first `n` rows is fit, and the others are all zero. From the last row down.
+fn has_right_rows(t: Table, n: usize) -> bool
+    requires { ⌜ Rising (t .clusters) n ⌝ }
+    requires { ⌜ n ≤ rowCap ⌝ }
+    ensures { λ b. ⌜ b ≡ hasRightRows t n rowCap ⌝ }
+{
+    let mut i = ROWS;
     while 0 < i {
         i -= 1;
-        let row = row_at(
-            clusters,
-            weights,
-            states,
-            lengths,
-            counts,
-            marks,
-            bests,
-            lows,
-            highs,
-            i,
-        );
-        if !is_row_fit(clusters, n, i, row) {
+        let weight = t.weights[i];
+        let best = t.bests[i];
+        let row = Fields {
+            cluster: t.clusters[i],
+            weight,
+            state: t.states[i],
+            length: t.lengths[i],
+            count: t.counts[i],
+            mark: t.marks[i],
+            best,
+            low: t.members_low[i],
+            high: t.members_high[i],
+        };
+        if !is_row_right(&t.clusters, n, i, row) {
             return false;
         }
     }
     true
-}
-
-// Whether the rows from `n` on, up to `end`, are all zero.
-fn is_blank_past<'a>(
-    clusters: &'a [u64],
-    weights: &'a [i32],
-    states: &'a [u8],
-    lengths: &'a [u64],
-    counts: &'a [u64],
-    marks: &'a [u8],
-    bests: &'a [i64],
-    lows: &'a [u64],
-    highs: &'a [u64],
-    n: usize,
-    end: usize,
-) -> bool
-    requires { ⌜ Reach (arrays (now clusters) (now weights) (now states) (now lengths) (now counts) (now marks) (now bests) (now lows) (now highs)) end ⌝ }
-    requires { ⌜ n ≤ end ⌝ }
-    ensures { λ b. ⌜ b ≡ blankFrom (arrays (now (clusters .entry)) (now (weights .entry)) (now (states .entry)) (now (lengths .entry)) (now (counts .entry)) (now (marks .entry)) (now (bests .entry)) (now (lows .entry)) (now (highs .entry))) n (end - n) ⌝ }
-{
-    let mut i = n;
-    while i < end {
-        let row = row_at(
-            clusters,
-            weights,
-            states,
-            lengths,
-            counts,
-            marks,
-            bests,
-            lows,
-            highs,
-            i,
-        );
-        if !is_empty(row) {
-            return false;
-        }
-        i += 1;
-    }
-    true
-}
-
-// Whether the first `n` rows ascend and are fit, and the others up to `end` are all zero.
-fn has_fit_rows<'a>(
-    clusters: &'a [u64],
-    weights: &'a [i32],
-    states: &'a [u8],
-    lengths: &'a [u64],
-    counts: &'a [u64],
-    marks: &'a [u8],
-    bests: &'a [i64],
-    lows: &'a [u64],
-    highs: &'a [u64],
-    n: usize,
-    end: usize,
-) -> bool
-    requires { ⌜ Reach (arrays (now clusters) (now weights) (now states) (now lengths) (now counts) (now marks) (now bests) (now lows) (now highs)) end ⌝ }
-    requires { ⌜ (n ≤ end) × (n ≤ rowCap) ⌝ }
-    ensures { λ b. ⌜ b ≡ hasFitRows (arrays (now (clusters .entry)) (now (weights .entry)) (now (states .entry)) (now (lengths .entry)) (now (counts .entry)) (now (marks .entry)) (now (bests .entry)) (now (lows .entry)) (now (highs .entry))) n end ⌝ }
-{
-    if !is_rising(clusters, n) {
-        return false;
-    }
-    if !is_each_fit(
-        clusters,
-        weights,
-        states,
-        lengths,
-        counts,
-        marks,
-        bests,
-        lows,
-        highs,
-        n,
-    ) {
-        return false;
-    }
-    is_blank_past(
-        clusters,
-        weights,
-        states,
-        lengths,
-        counts,
-        marks,
-        bests,
-        lows,
-        highs,
-        n,
-        end,
-    )
 }
 
 // Whether `t` is fit, whatever it holds.
@@ -431,17 +308,8 @@ pub fn is_fit(t: Table) -> bool
     if ROWS < n {
         return false;
     }
-    has_fit_rows(
-        &t.clusters,
-        &t.weights,
-        &t.states,
-        &t.lengths,
-        &t.counts,
-        &t.marks,
-        &t.bests,
-        &t.members_low,
-        &t.members_high,
-        n,
-        ROWS,
-    )
+    if !is_rising(&t.clusters, n) {
+        return false;
+    }
+    has_right_rows(t, n)
 }

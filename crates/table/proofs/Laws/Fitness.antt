@@ -8,23 +8,20 @@
 --     words-are                       the walks over two words: no mark past the rows, and each marked row passes
 --     most-is, minus-fits, light-low, light-high  the bounds of a best weight
 --     rising-more, rising-stop, rising-end     the clusters, from the last down
---     reach-part                      arrays that reach far reach less far
---     entries-more, entries-stop      the rows, from the last down
---     blank-more, blank-stop, blank-end     the rows past the number, upward
---     rowsIn, isFit-is                only the arrays of a table count; the whole test in the order of the code's
+--     right-more, right-stop, right-none     the rows, from the last down
+--     unfit, fit-rows                 a table that isn't fit; where degree bound, number and clusters are right, the rows tell
 -- Assumes nothing.
-use mathlib.Core.Path.{_≡_, refl, sym, ap, ap₂, _∙_, subst}
+use mathlib.Core.Path.{_≡_, refl, sym, ap, _∙_, subst}
 use mathlib.Core.Logic.{_⊎_, inl, inr, ⊎-elim, _≢_}
-use mathlib.Core.Bool.{Bool, true, false, not, _&&_, _||_, and-assoc, and-false}
-use mathlib.Core.List.{List, _∷_}
+use mathlib.Core.Bool.{Bool, true, false, not, _&&_, and-assoc, and-comm, and-true, and-false}
+use mathlib.Core.List.{List}
 use Prim.Native.Nat.{ℕ, zero, suc, _+_, _-_, _*_, _%_, _^_, _≤_, _<_}
 use native.Mathlib.Decide.{decLt}
-use native.Mathlib.Nat.{one-mul, le-trans}
-use native.Mathlib.Numerals.{add-one}
+use native.Mathlib.Nat.{one-mul, add-zero}
 use native.Mathlib.Omega.{arith}
 use borrow.Author.Tests.{eq-eqb, ne-eqb, lt-ltb, le-ltb, le-leb, lt-leb, ltb-true, ltb-false, not-true, not-false}
 use lib.Dec.{T, eqb, leb, ltb, eqb→eq, ltb→lt, lt→ltb, lit<}
-use lib.IntN.{ℤ, pos, negsuc, natAbs, negℤ, _*ℤ_, _-ℤ_, +ℤ-idl, pos-*ℤ-pos}
+use lib.IntN.{ℤ, pos, negsuc, natAbs, negℤ, _*ℤ_, pos-*ℤ-pos}
 use lib.ListN.{length, getD}
 use lib.Pow.{pow-pos, shl-exact}
 use lib.Signed.{ltZ, leZ}
@@ -32,7 +29,7 @@ use mir.Facts.{toZ-ofZ, toZ-pos}
 use mir.Syntax.{Width, w64}
 use mir.Val.{SFits, toZ, ofZ}
 use Rattle.laws.specs.Cluster.{inside, size}
-use Rattle.laws.specs.Limits.{weightMax, degreeLow, degreeHigh}
+use Rattle.laws.specs.Limits.{narrow, weightMax, degreeLow, degreeHigh}
 use Rattle.laws.specs.Lists.{every}
 use Rattle.laws.proofs.Tests.{T-and, and-T, T-true, T-false, true-T, bool-ext, eq→eqb}
 use Rattle.trees.specs.Rows.{Row, scored, Entry}
@@ -40,10 +37,10 @@ use Rattle.trees.specs.Result.{Result}
 use Rattle.table.specs.declared.fitness.Fields.{Fields}
 use Rattle.table.specs.declared.table.Table.{Table}
 use Rattle.table.specs.View.{rowCap, wordValues, entryAt, entriesOf}
-use Rattle.table.specs.Fit.{isZero, isBlank, isEmpty, hasMark, everyMarked, isMarkedIn, isTold, blankFrom, isFit}
+use Rattle.table.specs.Fit.{isZero, isBlank, isEmpty, hasMark, isTold, fitEntry, blankFrom, isFit}
 use Rattle.table.specs.Searched.{clustersDown, Rising}
-use Rattle.table.specs.Fitness.{arrays, listedIn, resultIn, isNothing, isLight, isRising, everyBit, isMarkFit, hasFitRows, Reach}
-use Rattle.table.proofs.Laws.Fit.{isZero→, nothing→, fitTable-is}
+use Rattle.table.specs.Fitness.{listedIn, resultIn, isNothing, isLight, isRising, everyBit, isMarkFit, isRowRight, hasRightRows}
+use Rattle.table.proofs.Laws.Fit.{isZero→, nothing→, FitTable, fitTable-is, isFit→}
 use Rattle.table.proofs.Laws.Marks.{Marked, mark-none, mark-lt, lt-of-marks, mark-rest, rest-mark, mark-low, mark-high}
 use Rattle.table.proofs.Laws.Marks.{clusters-are, everyBit→, →everyBit, everyMarked-is, isMarkedIn-is, length-clustersDown}
 
@@ -253,57 +250,53 @@ module _ (cs : List ℕ) where
   rising-end (suc zero) h = refl
   rising-end (suc (suc k)) h = absurd (omega arith)
 
--- ---- the rows
-pub reach-part : (t : Table) (n m : ℕ) → m ≤ n → Reach t n → Reach t m
-reach-part t n m h r = record {
-  clusters = le-trans h (r .clusters);
-  weights = le-trans h (r .weights);
-  states = le-trans h (r .states);
-  lengths = le-trans h (r .lengths);
-  counts = le-trans h (r .counts);
-  marks = le-trans h (r .marks);
-  bests = le-trans h (r .bests);
-  lows = le-trans h (r .lows);
-  highs = le-trans h (r .highs);
-}
+-- ---- the rows, from the last down
+module _ (t : Table) (n : ℕ) where
+  pub right-more : (i : ℕ) → 0 < i → isRowRight (t .clusters) n (i - 1) (entryAt t (i - 1)) ≡ true
+      → hasRightRows t n i ≡ hasRightRows t n (i - 1)
+  unfolding hasRightRows
+  right-more zero h e = absurd (omega arith)
+  right-more (suc k) h e = let a : suc k - 1 ≡ k = omega arith in rw (a, rw a at e)
 
-module _ (t : Table) where
-  pub entries-more : (p : Entry Result → Bool) (i : ℕ) → 0 < i → p (entryAt t (i - 1)) ≡ true
-      → every p (entriesOf t i) ≡ every p (entriesOf t (i - 1))
-  entries-more p zero h e = absurd (omega arith)
-  entries-more p (suc k) h e = let a : suc k - 1 ≡ k = omega arith in rw (a, rw a at e)
+  pub right-stop : (i : ℕ) → 0 < i → isRowRight (t .clusters) n (i - 1) (entryAt t (i - 1)) ≡ false → hasRightRows t n i ≡ false
+  unfolding hasRightRows
+  right-stop zero h e = absurd (omega arith)
+  right-stop (suc k) h e = let a : suc k - 1 ≡ k = omega arith in rw (rw a at e)
 
-  pub entries-stop : (p : Entry Result → Bool) (i : ℕ) → 0 < i → p (entryAt t (i - 1)) ≡ false → every p (entriesOf t i) ≡ false
-  entries-stop p zero h e = absurd (omega arith)
-  entries-stop p (suc k) h e = let a : suc k - 1 ≡ k = omega arith in rw (rw a at e)
+  pub right-none : hasRightRows t n 0 ≡ true
+  unfolding hasRightRows
+  right-none = refl
 
-  pub blank-more : (i n : ℕ) → i < n → isEmpty (entryAt t i) ≡ true → blankFrom t i (n - i) ≡ blankFrom t (i + 1) (n - (i + 1))
-  blank-more i n h e = let q : n - i ≡ suc (n - suc i) = omega arith in rw (add-one i, q, e)
+  -- the rows that are right are the fit ones, and past them the blank ones
+  right-each : (i : ℕ) → i ≤ n → hasRightRows t n i ≡ every (fitEntry narrow (clustersDown (t .clusters) n)) (entriesOf t i)
+  unfolding hasRightRows
+  right-each zero h = refl
+  right-each (suc i) h = rw (lt-leb n i h, right-each i (omega arith))
 
-  pub blank-stop : (i n : ℕ) → i < n → isEmpty (entryAt t i) ≡ false → blankFrom t i (n - i) ≡ false
-  blank-stop i n h e = let q : n - i ≡ suc (n - suc i) = omega arith in rw (q, e)
+  right-past : (i k : ℕ) → n ≤ i → hasRightRows t n (i + k) ≡ (hasRightRows t n i && blankFrom t i k)
+  unfolding hasRightRows
+  right-past i zero h = rw (add-zero i) (sym (and-true (hasRightRows t n i)))
+  right-past i (suc k) h =
+      let next : i + suc k ≡ suc i + k = omega arith in
+      rw (next, right-past (suc i) k (omega arith), le-leb n i h, and-comm (isEmpty (entryAt t i)) (hasRightRows t n i))
+      (and-assoc (hasRightRows t n i) (isEmpty (entryAt t i)) (blankFrom t (suc i) k))
 
-  pub blank-end : (i n : ℕ) → n ≤ i → blankFrom t i (n - i) ≡ true
-  blank-end i n h = let q : n - i ≡ 0 = omega arith in rw q
+  right-is : (m : ℕ) → n ≤ m
+      → hasRightRows t n m ≡ (every (fitEntry narrow (clustersDown (t .clusters) n)) (entriesOf t n) && blankFrom t n (m - n))
+  right-is m h =
+      let whole : m ≡ n + (m - n) = omega arith in
+      ap (hasRightRows t n) whole
+      ∙ right-past n (m - n) (omega arith)
+      ∙ ap (λ (x : Bool). x && blankFrom t n (m - n)) (right-each n (omega arith))
 
 -- ---- the whole
--- only the arrays of a table count
-abbrev pub rowsIn : Table → Table
-rowsIn t =
-    arrays (t .clusters) (t .weights) (t .states) (t .lengths) (t .counts) (t .marks) (t .bests) (t .«members_low») (t .«members_high»)
+pub unfit : (t : Table) → (FitTable t → ⊥) → isFit t ≡ false
+unfit t f = T-false (isFit t) (λ h. f (isFit→ t h))
 
-module _ (t : Table) where
-  entries-local : (n : ℕ) → entriesOf (rowsIn t) n ≡ entriesOf t n
-  entries-local zero = refl
-  entries-local (suc n) = ap (λ (l : List (Entry Result)). entryAt t n ∷ l) (entries-local n)
-
-  blank-local : (i k : ℕ) → blankFrom (rowsIn t) i k ≡ blankFrom t i k
-  blank-local i zero = refl
-  blank-local i (suc k) = ap (λ (b : Bool). isEmpty (entryAt t i) && b) (blank-local (suc i) k)
-
-  pub isFit-is : isFit t
-      ≡ (leb degreeLow (t .degree) && (leb (t .degree) degreeHigh && (leb 1 (t .rows) && (leb (t .rows) rowCap
-      && hasFitRows (rowsIn t) (t .rows) rowCap))))
-  isFit-is =
-      fitTable-is t
-      ∙ rw (entries-local (t .rows), blank-local (t .rows) (rowCap - t .rows), clusters-are t (t .rows))
+-- where degree bound, number and clusters are right, the rows tell
+pub fit-rows : (t : Table) → degreeLow ≤ t .degree → t .degree ≤ degreeHigh → 1 ≤ t .rows → t .rows ≤ rowCap
+    → isRising (t .clusters) (t .rows) ≡ true → isFit t ≡ hasRightRows t (t .rows) rowCap
+fit-rows t low high some capped rising =
+    fitTable-is t
+    ∙ rw (le-leb _ _ low, le-leb _ _ high, le-leb _ _ some, le-leb _ _ capped, rising, clusters-are t (t .rows))
+    (sym (right-is t (t .rows) rowCap capped))

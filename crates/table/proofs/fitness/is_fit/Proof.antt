@@ -1,72 +1,75 @@
--- `table::fitness::is_fit` meets its contract: degree bound and number of rows by themselves, then the rows. Assumes nothing.
+-- `table::fitness::is_fit` meets its contract: a fit table passes each test, and where the tests before it are passed the rows tell.
+-- Assumes nothing.
 use borrow.Author.Needs.{needs}
-use borrow.Author.Tests.{le-leb, lt-leb}
-use mathlib.Core.Path.{_≡_, sym, _∙_}
+use mathlib.Core.Path.{_≡_, sym, subst, _∙_}
 use mathlib.Core.Bool.{true}
+use Prim.Native.Nat.{_≤_}
 use native.Mathlib.Omega.{arith}
-use lib.Dec.{leb}
-use Rattle.laws.specs.Limits.{degreeLow, degreeHigh}
-use Rattle.table.specs.View.{rowCap}
-use Rattle.table.proofs.Laws.Fitness.{isFit-is}
+use lib.Dec.{T}
+use Rattle.laws.proofs.Tests.{true-T}
+use Rattle.table.specs.Fitness.{isRising}
+use Rattle.table.proofs.Laws.Fit.{FitTable, isRising→, →isRising}
+use Rattle.table.proofs.Laws.Fitness.{passed, failed, unfit, fit-rows}
 use Rattle.table.proofs.fitness.is_fit.Statement.{statement}
 use Rattle.table.proofs.fitness.is_fit.Tie as tie
 
+-- ---- places
+abbrev tested : tie.After-is-rising → tie.Else4
+tested c = c .before .before .before .before
+
+abbrev start : tie.Else4 → tie.Start
+start c = c .before .before .before .before
+
+ascend : (c : tie.Else5) → let t = start (tested (c .before)) .args .t1 in isRising (t .clusters) (t .rows) ≡ true
+ascend c = passed (c .before .is-rising .ensures) (c .if5 .left)
+
+-- ---- needs
 returns : tie.Need-returns
-returns c = sym (isFit-is (c .before .args .t1) ∙ rw (lt-leb degreeLow (c .before .args .t1 .degree) (c .if1 .taken)))
+returns c =
+    let t = c .before .args .t1 in
+    sym (unfit t (λ (f : FitTable t). omega (arith, f .low, c .if1 .taken)))
 
 returns-2 : tie.Need-returns-2
 returns-2 c =
-    let low = c .before in
-    let t = low .before .args .t1 in
-    sym (isFit-is t ∙ rw (le-leb degreeLow (t .degree) (low .if1 .left), lt-leb (t .degree) degreeHigh (c .if2 .taken)))
+    let t = c .before .before .args .t1 in
+    sym (unfit t (λ (f : FitTable t). omega (arith, f .high, c .if2 .taken)))
 
 returns-3 : tie.Need-returns-3
 returns-3 c =
-    let high = c .before in
-    let low = high .before in
-    let t = low .before .args .t1 in
-    sym (isFit-is t
-    ∙ rw (le-leb degreeLow (t .degree) (low .if1 .left), le-leb (t .degree) degreeHigh (high .if2 .left), lt-leb 1 (t .rows) (omega arith)))
+    let t = c .before .before .before .args .t1 in
+    sym (unfit t (λ (f : FitTable t). omega (arith, f .some, c .if3 .taken)))
 
 returns-4 : tie.Need-returns-4
 returns-4 c =
-    let some = c .before in
-    let high = some .before in
-    let low = high .before in
-    let t = low .before .args .t1 in
-    sym (isFit-is t
-    ∙ rw (
-      le-leb degreeLow (t .degree) (low .if1 .left),
-      le-leb (t .degree) degreeHigh (high .if2 .left),
-      le-leb 1 (t .rows) (omega arith),
-      lt-leb (t .rows) rowCap (c .if4 .taken),
-    ))
+    let t = c .before .before .before .before .args .t1 in
+    sym (unfit t (λ (f : FitTable t). omega (arith, f .capped, c .if4 .taken)))
 
-has-fit-rows-requires : tie.Need-has-fit-rows-requires
-has-fit-rows-requires c κs = search needs
-
--- nine arrays were lent since the last test
-abbrev tested : tie.After-has-fit-rows → tie.Else4
-tested c =
-    let lent = c .before .before .before .before .before .before .before .before .before .before in
-    lent .before .before .before .before .before .before .before .before .before .before
+is-rising-requires : tie.Need-is-rising-requires
+is-rising-requires c κs = search needs
 
 returns-5 : tie.Need-returns-5
 returns-5 c =
-    let capped = tested c in
+    let t = start (tested (c .before)) .args .t1 in
+    let falls = failed (c .before .is-rising .ensures) (c .if5 .taken) in
+    sym (unfit t (λ (f : FitTable t). subst T falls (→isRising (t .clusters) (t .rows) (f .rising))))
+
+has-right-rows-requires : tie.Need-has-right-rows-requires
+has-right-rows-requires c κs =
+    let capped = tested (c .before) in
+    let t = start capped .args .t1 in
+    (record { long = search needs; up = isRising→ (t .clusters) (t .rows) (true-T (ascend c)) }, capped .if4 .left)
+
+returns-6 : tie.Need-returns-6
+returns-6 c =
+    let capped = tested (c .before .before) in
     let some = capped .before in
     let high = some .before in
-    let low = high .before in
-    let t = low .before .args .t1 in
-    let one : leb 1 (t .rows) ≡ true = le-leb 1 (t .rows) (omega (arith, some .if3 .left)) in
-    c .has-fit-rows .ensures
-    ∙ sym (isFit-is t
-    ∙ rw (
-      le-leb degreeLow (t .degree) (low .if1 .left),
-      le-leb (t .degree) degreeHigh (high .if2 .left),
-      one,
-      le-leb (t .rows) rowCap (capped .if4 .left),
-    ))
+    let t = start capped .args .t1 in
+    let one : 1 ≤ t .rows = omega (arith, some .if3 .left) in
+    c .has-right-rows .ensures
+    ∙ sym (fit-rows t (high .before .if1 .left) (high .if2 .left) one (capped .if4 .left) (ascend (c .before)))
 
 pub is-fit-spec : {M : Type 1} → statement M
-is-fit-spec = tie.close (tie.spec returns returns-2 returns-3 returns-4 has-fit-rows-requires returns-5)
+is-fit-spec =
+    tie.close
+    (tie.spec returns returns-2 returns-3 returns-4 is-rising-requires returns-5 has-right-rows-requires returns-6)
