@@ -141,7 +141,8 @@ module _ (n : ℕ) (p : ℕ → Bool) (lo hi : ℕ) (small : lo < wordValues) (s
 
       high : (64 ≤ i) × Marked hi (i - 64) → (i < n) × T (p i)
       high q =
-          let r = T-and (ltb (64 + (i - 64)) n) (p (64 + (i - 64))) (everyBit→ hi 64 (passes 64) b (i - 64) (mark-lt 64 hi (i - 64) short (q .1)) (q .1)) in
+          let l = mark-lt 64 hi (i - 64) short (q .1) in
+          let r = T-and (ltb (64 + (i - 64)) n) (p (64 + (i - 64))) (everyBit→ hi 64 (passes 64) b (i - 64) l (q .1)) in
           let e : 64 + (i - 64) ≡ i = omega (arith, q .0) in
           (omega (arith, ltb→lt (64 + (i - 64)) n (r .0), e), subst (λ (x : ℕ). T (p x)) e (r .1))
 
@@ -152,7 +153,9 @@ module _ (n : ℕ) (p : ℕ → Bool) (lo hi : ℕ) (small : lo < wordValues) (s
       to h =
           let q = T-and (everyBit lo 64 (passes 0)) (everyBit hi 64 (passes 64)) h in
           let f = each (q .0) (q .1) in
-          and-T (ltb members (2 ^ n)) (everyBit members n p) (lt→ltb _ _ (lt-of-marks n members (λ i k. f i k .0))) (→everyBit members n p (λ i l k. f i k .1))
+          and-T (ltb members (2 ^ n)) (everyBit members n p)
+          (lt→ltb _ _ (lt-of-marks n members (λ i k. f i k .0)))
+          (→everyBit members n p (λ i l k. f i k .1))
 
       at : (b i : ℕ) → T (ltb members (2 ^ n) && everyBit members n p) → Marked members (b + i) → T (passes b i)
       at b i h k =
@@ -163,12 +166,18 @@ module _ (n : ℕ) (p : ℕ → Bool) (lo hi : ℕ) (small : lo < wordValues) (s
       from : T (ltb members (2 ^ n) && everyBit members n p) → T (everyBit lo 64 (passes 0) && everyBit hi 64 (passes 64))
       from h =
           and-T (everyBit lo 64 (passes 0)) (everyBit hi 64 (passes 64))
-          (→everyBit lo 64 (passes 0) (λ i l k. at 0 i h (let e : i ≡ 0 + i = omega arith in subst (Marked members) e (subst T (sym (mark-low lo hi i l)) k))))
+          (→everyBit lo 64 (passes 0) (λ i l k.
+          let e : i ≡ 0 + i = omega arith in
+          at 0 i h (subst (Marked members) e (subst T (sym (mark-low lo hi i l)) k))))
           (→everyBit hi 64 (passes 64) (λ i l k. at 64 i h (subst T (sym (mark-high lo hi i small)) k)))
 
 -- ---- what the count says of marks and best
 pub told-none : (cs : List ℕ) (r : Row) (v : Result) → v .count ≡ 0 → isTold cs r v ≡ isNothing v
-told-none cs r v e = rw (eq-eqb _ _ e) (bool-ext _ _ (λ h. T-and (ltb (v .members) (2 ^ length cs)) (isNothing v) h .1) (λ h. and-T (ltb (v .members) (2 ^ length cs)) (isNothing v) (below h) h))
+told-none cs r v e =
+    rw (eq-eqb _ _ e)
+    (bool-ext _ _
+    (λ h. T-and (ltb (v .members) (2 ^ length cs)) (isNothing v) h .1)
+    (λ h. and-T (ltb (v .members) (2 ^ length cs)) (isNothing v) (below h) h))
   where
     below : T (isNothing v) → T (ltb (v .members) (2 ^ length cs))
     below h = lt→ltb (v .members) (2 ^ length cs) (omega (arith, nothing→ v h .0, pow-pos (length cs)))
@@ -188,7 +197,8 @@ module _ (cs : List ℕ) (n i : ℕ) (r : Fields) (rises : Rising cs n) (place :
   -- the tests of a count that isn't zero, by row number
   live-is : r .count ≢ 0
       → isTold (clustersDown cs n) (listedIn r) (resultIn r)
-      ≡ (ltb (resultIn r .members) (2 ^ n) && (hasMark (resultIn r .members) i && everyBit (resultIn r .members) n inner && isLight (r .best) (size (r .cluster))))
+      ≡ (ltb (resultIn r .members) (2 ^ n)
+      && (hasMark (resultIn r .members) i && everyBit (resultIn r .members) n inner && isLight (r .best) (size (r .cluster))))
   live-is e =
       rw (ne-eqb _ _ e, length-clustersDown cs n, everyMarked-is cs n (resultIn r .members) (λ c. inside c (r .cluster)), own)
       (rw (isMarkedIn-is cs n (resultIn r .members) i rises place))

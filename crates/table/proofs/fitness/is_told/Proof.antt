@@ -34,7 +34,8 @@ abbrev start : tie.Else1 → tie.Start
 start c = c .before .before .before
 
 live : (c : tie.Else1) → let a = start c .args in
-    isTold (clustersDown (now (a .clusters)) (a .n)) (listedIn (a .row)) (resultIn (a .row)) ≡ toldTests (now (a .clusters)) (a .n) (a .i) (a .row)
+    isTold (clustersDown (now (a .clusters)) (a .n)) (listedIn (a .row)) (resultIn (a .row))
+    ≡ toldTests (now (a .clusters)) (a .n) (a .i) (a .row)
 live c =
     let s = start c in
     let p = s .pre .0 in
