@@ -3,14 +3,14 @@
 //     ladlepine_build       the digest of a built table
 //     ladlepine_rescore     the digest of a built table after a number of rescorings of one cluster
 use std::num::wrapping_add_u64;
-use table::Table;
 use table::build;
 use table::rescore;
 ghost use mathlib.Core.Path.{_≡_};
 ghost use mir.Syntax.{w64};
 ghost use mir.Val.{ofZ};
+ghost use Rattle.table.specs.View.{rowCap};
 ghost use Rattle.table.specs.Build.{buildTable};
-ghost use Rattle.calls.specs.Digest.{rowDigest, digest, rescoredTimes};
+ghost use Rattle.calls.specs.Digest.{rowDigest, results, Long, digestTo, digest, rescoredTimes};
 
 // The last number of 64 bits, which stands for -1.
 const MINUS_ONE: u64 = 18446744073709551615;
@@ -38,22 +38,24 @@ fn row_digest(length: u64, count: u64, mark: u8, best: i64, low: u64, high: u64)
     wrapping_add_u64(wrapping_add_u64(counts, members), rest)
 }
 
-// The results of all rows added up.
-fn digest_of(t: Table) -> u64
-    ensures { λ r. ⌜ r ≡ digest t ⌝ }
+// The results of all rows added up. The arrays are lent: a table by value would be copied for each call.
+fn digest_of<'a>(
+    lengths: &'a [u64],
+    counts: &'a [u64],
+    marks: &'a [u8],
+    bests: &'a [i64],
+    lows: &'a [u64],
+    highs: &'a [u64],
+) -> u64
+    requires { ⌜ Long (results (now lengths) (now counts) (now marks) (now bests) (now lows) (now highs)) ⌝ }
+    ensures { λ r. ⌜ r ≡ digestTo (results (now (lengths .entry)) (now (counts .entry)) (now (marks .entry))
+        (now (bests .entry)) (now (lows .entry)) (now (highs .entry))) rowCap ⌝ }
 {
     let mut sum = 0;
     let mut i = 0;
     while i < ROW_CAP {
-        let best = t.bests[i];
-        let row = row_digest(
-            t.lengths[i],
-            t.counts[i],
-            t.marks[i],
-            best,
-            t.members_low[i],
-            t.members_high[i],
-        );
+        let best = bests[i];
+        let row = row_digest(lengths[i], counts[i], marks[i], best, lows[i], highs[i]);
         sum = wrapping_add_u64(sum, row);
         i += 1;
     }
@@ -66,7 +68,14 @@ pub extern "C" fn ladlepine_build(list: &[u8], degree: u32) -> u64
     ensures { λ r. ⌜ r ≡ digest (buildTable (now (list .entry)) degree .table) ⌝ }
 {
     let built = build(list, degree);
-    digest_of(built.table)
+    digest_of(
+        &built.table.lengths,
+        &built.table.counts,
+        &built.table.marks,
+        &built.table.bests,
+        &built.table.members_low,
+        &built.table.members_high,
+    )
 }
 
 // The digest of the table that a build of `list` hands back, after `times` rescorings of `cluster` to the same weight and state.
@@ -89,5 +98,12 @@ pub extern "C" fn ladlepine_rescore(
         t = changed.table;
         i += 1;
     }
-    digest_of(t)
+    digest_of(
+        &t.lengths,
+        &t.counts,
+        &t.marks,
+        &t.bests,
+        &t.members_low,
+        &t.members_high,
+    )
 }

@@ -13,19 +13,18 @@ use Rattle.table.specs.declared.making.Built.{Built}
 use Rattle.table.specs.declared.rescoring.Rescored.{Rescored}
 use Rattle.table.specs.Build.{Making, makingOf}
 use Rattle.table.specs.Rescore.{Changing, changingOf, rescoreTable}
-use Rattle.calls.specs.Digest.{wrap, rowDigest, digestTo, rescoredTimes}
+use Rattle.calls.specs.Digest.{wrap, rowDigest, Results, digestTo, rescoredTimes}
 
-module _ (t : Table) where
-  pub digestTo-none : digestTo t 0 ≡ 0
+module _ (k : Results) where
+  pub digestTo-none : digestTo k 0 ≡ 0
   unfolding digestTo
   digestTo-none = refl
 
-  pub digestTo-more : (i n r : ℕ) (z : ℤ) → z ≡ getD (t .bests) i (pos 0) → n ≡ digestTo t i
-      → r ≡ rowDigest (getD (t .lengths) i 0) (getD (t .counts) i 0) (getD (t .marks) i 0) z
-      (getD (t .«members_low») i 0) (getD (t .«members_high») i 0)
-      → wrap n r ≡ digestTo t (i + 1)
+  pub digestTo-more : (i n r : ℕ) (z : ℤ) → z ≡ getD (k .bests) i (pos 0) → n ≡ digestTo k i
+      → r ≡ rowDigest (getD (k .lengths) i 0) (getD (k .counts) i 0) (getD (k .marks) i 0) z (getD (k .lows) i 0) (getD (k .highs) i 0)
+      → wrap n r ≡ digestTo k (i + 1)
   unfolding digestTo
-  digestTo-more i n r z e h k = rw (add-one i, h, k, e)
+  digestTo-more i n r z e h j = rw (add-one i, h, j, e)
 
 module _ (c : ℕ) (z : ℤ) (s : ℕ) (t : Table) where
   pub rescoredTimes-none : rescoredTimes 0 c z s t ≡ t

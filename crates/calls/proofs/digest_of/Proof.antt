@@ -10,88 +10,58 @@ use mir.Facts.{toZ-ofZ}
 use mir.Syntax.{w64}
 use mir.Val.{SFits}
 use Rattle.table.specs.View.{rowCap}
-use Rattle.calls.specs.Digest.{digestTo}
+use Rattle.calls.specs.Digest.{Results, results, digestTo}
 use Rattle.calls.proofs.Laws.Digest.{digestTo-none, digestTo-more}
 use Rattle.calls.proofs.digest_of.Statement.{statement}
 use Rattle.calls.proofs.digest_of.Tie as tie
 
 abbrev Inv-loop : tie.InvT-loop
-Inv-loop t sum₀ i₀ sum i = (i ≤ rowCap) × (sum ≡ digestTo t i)
+Inv-loop lengths counts marks bests lows highs sum₀ i₀ sum i =
+    (i ≤ rowCap) × (sum ≡ digestTo (results lengths counts marks bests lows highs) i)
 
 abbrev μ-loop : tie.MeasureT-loop
-μ-loop t sum₀ i₀ sum i = rowCap - i
+μ-loop lengths counts marks bests lows highs sum₀ i₀ sum i = rowCap - i
+
+-- ---- places
+
+abbrev start : tie.At-loop Inv-loop μ-loop → tie.Start Inv-loop μ-loop
+start c = c .before .before .before .before .before .before
+
+-- the arrays that a call is handed
+abbrev given : tie.Start Inv-loop μ-loop → Results
+given s =
+    let a = s .args in
+    results (a .lengths .now) (a .counts .now) (a .marks .now) (a .bests .now) (a .lows .now) (a .highs .now)
 
 -- the row that is added, when its best is read
 abbrev row : tie.After-row-digest Inv-loop μ-loop → tie.After-best Inv-loop μ-loop
 row c = c .before .before .before .before .before .before
 
 best-fits : (c : tie.After-best Inv-loop μ-loop)
-    → let at-loop = c .before .before in SFits w64 (getD (at-loop .before .args .t1 .bests) (at-loop .loop .i) (pos 0))
+    → let at-loop = c .before .before in SFits w64 (getD (start at-loop .args .bests .now) (at-loop .loop .i) (pos 0))
 best-fits c = search needs
 
+-- ---- needs
+
 loop-holds : tie.Need-loop-holds Inv-loop μ-loop
-loop-holds c = (omega arith, sym (digestTo-none (c .args .t1)))
-
-mul-best : tie.Need-mul-best Inv-loop μ-loop
-mul-best c = search needs
-
-element-copy-out-best : tie.Need-element-copy-out-best Inv-loop μ-loop
-element-copy-out-best c = search needs
-
-mul-row-digest : tie.Need-mul-row-digest Inv-loop μ-loop
-mul-row-digest c = search needs
-
-element-copy-out-row-digest : tie.Need-element-copy-out-row-digest Inv-loop μ-loop
-element-copy-out-row-digest c = search needs
-
-mul-row-digest-2 : tie.Need-mul-row-digest-2 Inv-loop μ-loop
-mul-row-digest-2 c = search needs
-
-element-copy-out-row-digest-2 : tie.Need-element-copy-out-row-digest-2 Inv-loop μ-loop
-element-copy-out-row-digest-2 c = search needs
-
-element-copy-out-row-digest-3 : tie.Need-element-copy-out-row-digest-3 Inv-loop μ-loop
-element-copy-out-row-digest-3 c = search needs
-
-mul-row-digest-3 : tie.Need-mul-row-digest-3 Inv-loop μ-loop
-mul-row-digest-3 c = search needs
-
-element-copy-out-row-digest-4 : tie.Need-element-copy-out-row-digest-4 Inv-loop μ-loop
-element-copy-out-row-digest-4 c = search needs
-
-mul-row-digest-4 : tie.Need-mul-row-digest-4 Inv-loop μ-loop
-mul-row-digest-4 c = search needs
-
-element-copy-out-row-digest-5 : tie.Need-element-copy-out-row-digest-5 Inv-loop μ-loop
-element-copy-out-row-digest-5 c = search needs
-
-row-digest-requires : tie.Need-row-digest-requires Inv-loop μ-loop
-row-digest-requires c κs = search needs
-
-wrapping-add-u64-requires : tie.Need-wrapping-add-u64-requires Inv-loop μ-loop
-wrapping-add-u64-requires c κs = search needs
-
-add-i : tie.Need-add-i Inv-loop μ-loop
-add-i c = search needs
-
-loop-less : tie.Need-loop-less Inv-loop μ-loop
-loop-less c = search needs
+loop-holds c = (omega arith, sym (digestTo-none _))
 
 loop-again : tie.Need-loop-again Inv-loop μ-loop
 loop-again c =
     let at-best = row (c .before) in
     let at-loop = at-best .before .before in
-    let t = at-loop .before .args .t1 in
     let best = toZ-ofZ (best-fits at-best) in
     let here = c .before .row-digest .ensures in
-    (omega arith, c .wrapping-add-u64 .ensures ∙ digestTo-more t (at-loop .loop .i) _ _ _ best (at-loop .loop .inv .1) here)
+    let more = digestTo-more (given (start at-loop)) (at-loop .loop .i) _ _ _ best (at-loop .loop .inv .1) here in
+    (omega arith, c .wrapping-add-u64 .ensures ∙ more)
 
 returns : tie.Need-returns Inv-loop μ-loop
 returns c =
     let at-loop = c .before in
     let end : at-loop .loop .i ≡ rowCap = omega arith in
-    at-loop .loop .inv .1 ∙ ap (digestTo (at-loop .before .args .t1)) end
+    at-loop .loop .inv .1 ∙ ap (digestTo (given (start at-loop))) end
 
+-- each read is below the room, which every array has: the needs with no name are found
 pub digest-of-spec : {M : Type 1} → statement M
 digest-of-spec =
     tie.close
@@ -99,20 +69,20 @@ digest-of-spec =
     Inv-loop
     μ-loop
     loop-holds
-    mul-best
-    element-copy-out-best
-    mul-row-digest
-    element-copy-out-row-digest
-    mul-row-digest-2
-    element-copy-out-row-digest-2
-    element-copy-out-row-digest-3
-    mul-row-digest-3
-    element-copy-out-row-digest-4
-    mul-row-digest-4
-    element-copy-out-row-digest-5
-    row-digest-requires
-    wrapping-add-u64-requires
-    add-i
-    loop-less
+    (λ c. search needs)
+    (λ c. search needs)
+    (λ c. search needs)
+    (λ c. search needs)
+    (λ c. search needs)
+    (λ c. search needs)
+    (λ c. search needs)
+    (λ c. search needs)
+    (λ c. search needs)
+    (λ c. search needs)
+    (λ c. search needs)
+    (λ c κs. search needs)
+    (λ c κs. search needs)
+    (λ c. search needs)
+    (λ c. search needs)
     loop-again
     returns)

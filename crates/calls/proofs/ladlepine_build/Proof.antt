@@ -13,7 +13,11 @@ digest-of-requires : tie.Need-digest-of-requires
 digest-of-requires c κs = search needs
 
 returns : tie.Need-returns
-returns c = c .digest-of .ensures ∙ ap (λ (m : Making). digest (m .table)) (c .before .build .ensures)
+returns c =
+    let lent = c .before .before .before .before .before .before in
+    let built = lent .before .before .before .before .before .before .before .before in
+    _∙_ {b = digest (built .build .result .table)} (c .digest-of .ensures)
+    (ap (λ (m : Making). digest (m .table)) (built .build .ensures))
 
 pub ladlepine-build-spec : {M : Type 1} → statement M
 ladlepine-build-spec = tie.close (tie.spec build-requires digest-of-requires returns)

@@ -18,6 +18,12 @@ Inv-loop list degree cluster weight state times t₀ i₀ t i = (i ≤ times) ×
 abbrev μ-loop : tie.MeasureT-loop
 μ-loop list degree cluster weight state times t₀ i₀ t i = times - i
 
+-- the loop's end, from where the digest is known
+abbrev ended : tie.After-digest-of Inv-loop μ-loop → tie.After-loop Inv-loop μ-loop
+ended c =
+    let lent = c .before .before .before .before .before .before in
+    lent .before .before .before .before .before .before .before .before
+
 weight-fits : (s : tie.Start Inv-loop μ-loop) → SFits w32 (s .args .weight)
 weight-fits s = s .fits .weight
 
@@ -43,20 +49,20 @@ loop-again c =
     (omega arith, rescored-more _ _ _ _ (at-loop .loop .i) (at-loop .loop .t) (changed .result) (at-loop .loop .inv .1) (changed .ensures))
 
 digest-of-requires : tie.Need-digest-of-requires Inv-loop μ-loop
-digest-of-requires c κs = tt
+digest-of-requires c κs = search needs
 
 returns : tie.Need-returns Inv-loop μ-loop
 returns c =
-    let at-loop = c .before .before in
+    let at-loop = ended c .before in
     let build = at-loop .before .before in
     let start = build .before .before in
     let a = start .args in
-    let end : at-loop .loop .i ≡ a .times = omega arith in
+    let end : at-loop .loop .i ≡ a .times = omega (arith, ended c .loop-test .left, at-loop .loop .inv .0) in
     let score = toZ-ofZ (weight-fits start) in
     let built = build .build in
-    c .digest-of .ensures
-    ∙ ap digest
-    (rescored-end _ _ (a .cluster) _ _ (a .state) (built .result) _ (at-loop .loop .t) end score (built .ensures) (at-loop .loop .inv .1))
+    _∙_ {b = digest (at-loop .loop .t)} (c .digest-of .ensures)
+    (ap digest
+    (rescored-end _ _ (a .cluster) _ _ (a .state) (built .result) _ (at-loop .loop .t) end score (built .ensures) (at-loop .loop .inv .1)))
 
 pub ladlepine-rescore-spec : {M : Type 1} → statement M
 ladlepine-rescore-spec =
