@@ -4,5 +4,3 @@ pub mod Laws
 pub mod Theorems
 -- the highest taxon by leading zeros, for this crate's proofs
 mod Leading
--- the steps between a signed number and its 32 bits, for this crate's proofs
-mod Signed

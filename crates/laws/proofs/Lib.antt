@@ -34,3 +34,5 @@ pub mod Appended
 pub mod Lowest
 -- lists one behind another, taken apart
 pub mod Split
+-- signed numbers and their bits in two's complement, of any width
+pub mod Signed

@@ -1,48 +1,28 @@
 -- `cluster::bytes::unsigned_of` meets its contract: a number that isn't negative is its own bits, and a negative one is flipped and its
 -- bits are flipped back. Assumes nothing.
-use mathlib.Core.Path.{_≡_}
-use native.Mathlib.Omega.{arith}
-use lib.Dec.{T}
-use lib.IntN.{natAbs}
-use lib.Signed.{nonNeg}
-use mir.Facts.{toZ-ofZ}
+use mathlib.Core.Path.{refl}
 use mir.Syntax.{w32}
-use mir.Val.{Fits, SFits, ofZ}
-use Rattle.cluster.proofs.Signed.{unsigned-pos, flip-fits, flip-back, unsigned-neg}
+use Rattle.laws.proofs.Signed.{whole-fits, whole-bits, flip-fits, flip-whole, flip-below, flip-bits}
 use Rattle.cluster.proofs.bytes.unsigned_of.Statement.{statement}
 use Rattle.cluster.proofs.bytes.unsigned_of.Tie as tie
 
-fits : (s : tie.Start) → SFits w32 (s .args .z)
-fits s = s .fits .z
-
-not-negative : (c : tie.Then1)
-    → let z = c .before .args .z in T (nonNeg z) × Fits w32 (natAbs z) × (natAbs z ≡ ofZ w32 z)
-not-negative c = unsigned-pos (c .before .args .z) (fits (c .before)) (rw (toZ-ofZ (fits (c .before))) at (c .if1 .taken))
-
 cast-result : tie.Need-cast-result
-cast-result c = rw (toZ-ofZ (fits (c .before))) (not-negative c .0, not-negative c .1)
+cast-result c = whole-fits w32 _ (c .before .fits .z) (c .if1 .taken)
 
 returns : tie.Need-returns
-returns c = rw (toZ-ofZ (fits (c .before))) (not-negative c .2)
+returns c = whole-bits w32 _ (c .before .fits .z) (c .if1 .taken)
 
 sub-result : tie.Need-sub-result
-sub-result c = flip-fits (c .before .args .z) (fits (c .before)) (c .if1 .left)
+sub-result c = flip-fits w32 _ refl _ (c .before .fits .z) (c .if1 .left)
 
 cast-result-2 : tie.Need-cast-result-2
-cast-result-2 c =
-    let f = fits (c .before) in
-    rw (flip-back (c .before .args .z) f (c .if1 .left)) (tt, record { fits = omega arith })
+cast-result-2 c = flip-whole w32 _ refl _ (c .before .fits .z) (c .if1 .left)
 
 sub-result-2 : tie.Need-sub-result-2
-sub-result-2 c =
-    let f = fits (c .before) in
-    rw (flip-back (c .before .args .z) f (c .if1 .left)) (omega arith)
+sub-result-2 c = flip-below w32 _ refl _ (c .before .fits .z) (c .if1 .left)
 
 returns-2 : tie.Need-returns-2
-returns-2 c =
-    let z = c .before .args .z in
-    let f = fits (c .before) in
-    rw (flip-back z f (c .if1 .left)) (unsigned-neg z f (c .if1 .left))
+returns-2 c = flip-bits w32 _ refl _ (c .before .fits .z) (c .if1 .left)
 
 pub unsigned-of-spec : {M : Type 1} → statement M
 unsigned-of-spec = tie.close (tie.spec cast-result returns sub-result cast-result-2 sub-result-2 returns-2)

@@ -3,7 +3,7 @@ use borrow.Author.Needs.{needs}
 use borrow.Author.Tests.{eq-eqb, ne-eqb}
 use mir.Syntax.{w32}
 use mir.Val.{SFits}
-use Rattle.cluster.proofs.Signed.{bits-zero}
+use Rattle.laws.proofs.Signed.{bits-zero}
 use Rattle.cluster.proofs.rule.has_unscored_weight.Statement.{statement}
 use Rattle.cluster.proofs.rule.has_unscored_weight.Tie as tie
 
@@ -16,7 +16,7 @@ returns c = simp (ne-eqb _ _ (c .if1 .taken))
 returns-2 : tie.Need-returns-2
 returns-2 c =
     let s = c .before .before .before .before in
-    simp (eq-eqb _ _ (c .before .before .if1 .left), bits-zero (s .args .r .weight) (weight-fits s))
+    simp (eq-eqb _ _ (c .before .before .if1 .left), bits-zero w32 (s .args .r .weight) (weight-fits s))
 
 pub has-unscored-weight-spec : {M : Type 1} → statement M
 has-unscored-weight-spec = tie.close (tie.spec returns returns-2)

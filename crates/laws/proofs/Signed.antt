@@ -1,0 +1,86 @@
+-- Signed numbers of any width: the steps of code between a number and its bits in two's complement. The negative numbers are flipped:
+-- -1 - z has the bits of z, each one changed. `m` is the last number of the width, whose bits stand for -1.
+--     signed-high                  bits from the middle on: -1 less the flipped bits
+--     whole-fits, whole-bits       a number that isn't negative fits, and is its own bits
+--     flip-fits, flip-whole, flip-below, flip-bits     a negative number: the flipped one fits, is not negative, and gives the bits
+--     bits-zero                    the bits are zero where the number is
+-- Assumes nothing.
+use mathlib.Core.Path.{_≡_, refl, sym, ap, _∙_}
+use mathlib.Core.Bool.{true, false}
+use Prim.Native.Nat.{ℕ, zero, suc, _+_, _-_, _^_, _≤_, _<_}
+use native.Mathlib.Nat.{zero-add}
+use native.Mathlib.Omega.{arith}
+use borrow.Author.Tests.{le-ltb, ne-eqb}
+use lib.Dec.{T, eqb, leb·zero, eqb·suc-zero}
+use lib.IntN.{ℤ, pos, negsuc, natAbs, _-ℤ_}
+use lib.Signed.{mag, leZ, nonNeg}
+use mir.Facts.{toZ-ofZ, toZ-pos, toZ-neg}
+use mir.Syntax.{Width, w8, w16, w32, w64, w128}
+use mir.Val.{bits, hbits, Fits, SFits, toZ, ofZ}
+
+-- half of the bits stand for negative numbers
+halves : (w : Width) → 2 ^ bits w ≡ 2 ^ hbits w + 2 ^ hbits w
+halves w8 = refl
+halves w16 = refl
+halves w32 = refl
+halves w64 = refl
+halves w128 = refl
+
+-- -1 - n, and -1 - (-(n + 1))
+flip-pos : (n : ℕ) → negsuc 0 -ℤ pos n ≡ negsuc n
+flip-pos zero = refl
+flip-pos (suc n) = rw zero-add
+
+flip-neg : (n : ℕ) → negsuc 0 -ℤ negsuc n ≡ pos n
+flip-neg n = simp (le-ltb (suc n) 1 (omega arith)) (ap pos (omega arith))
+
+module _ (w : Width) (m : ℕ) (last : suc m ≡ 2 ^ bits w) where
+  pub signed-high : (n : ℕ) → 2 ^ hbits w ≤ n → n < 2 ^ bits w → negsuc 0 -ℤ toZ w (m - n) ≡ toZ w n
+  signed-high n h k =
+      let low : m - n < 2 ^ hbits w = omega (arith, last, halves w) in
+      let back : 2 ^ bits w - suc (m - n) ≡ n = omega (arith, last) in
+      ap (λ (z : ℤ). negsuc 0 -ℤ z) (toZ-pos w {n = m - n} low) ∙ flip-pos (m - n) ∙ sym (toZ-neg w (m - n) low) ∙ ap (toZ w) back
+
+  flipped : (z : ℤ) → leZ (pos 0) z ≡ false → (negsuc 0 -ℤ z ≡ pos (mag z)) × (m - mag z ≡ ofZ w z)
+  flipped (pos n) t = let z : _≡_ {A = ℕ} 0 1 = cc (leb·zero n) in absurd (omega arith)
+  flipped (negsuc n) t = (flip-neg n, omega (arith, last))
+
+  module _ (z : ℤ) (f : SFits w z) (t : leZ (pos 0) (toZ w (ofZ w z)) ≡ false) where
+    negative : leZ (pos 0) z ≡ false
+    negative = rw (toZ-ofZ f) at t
+
+    flip : negsuc 0 -ℤ toZ w (ofZ w z) ≡ pos (mag z)
+    flip = rw (toZ-ofZ f) (flipped z negative .0)
+
+    pub flip-fits : SFits w (negsuc 0 -ℤ toZ w (ofZ w z))
+    flip-fits = rw flip (record { sfits = f .sfits })
+
+    flip-back : toZ w (ofZ w (negsuc 0 -ℤ toZ w (ofZ w z))) ≡ pos (mag z)
+    flip-back = toZ-ofZ flip-fits ∙ flip
+
+    pub flip-whole : let y = toZ w (ofZ w (negsuc 0 -ℤ toZ w (ofZ w z))) in T (nonNeg y) × Fits w (natAbs y)
+    flip-whole = rw flip-back (tt, record { fits = omega (arith, f .sfits, halves w) })
+
+    pub flip-below : natAbs (toZ w (ofZ w (negsuc 0 -ℤ toZ w (ofZ w z)))) ≤ m
+    flip-below = rw flip-back (omega (arith, f .sfits, halves w, last))
+
+    pub flip-bits : m - natAbs (toZ w (ofZ w (negsuc 0 -ℤ toZ w (ofZ w z)))) ≡ ofZ w z
+    flip-bits = rw flip-back (flipped z negative .1)
+
+module _ (w : Width) where
+  whole : (z : ℤ) → SFits w z → leZ (pos 0) z ≡ true → (T (nonNeg z) × Fits w (natAbs z)) × (natAbs z ≡ ofZ w z)
+  whole (pos n) f t = ((tt, record { fits = omega (arith, f .sfits, halves w) }), refl)
+  whole (negsuc n) f t = let z : _≡_ {A = ℕ} 0 1 = cc in absurd (omega arith)
+
+  module _ (z : ℤ) (f : SFits w z) (t : leZ (pos 0) (toZ w (ofZ w z)) ≡ true) where
+    pub whole-fits : let y = toZ w (ofZ w z) in T (nonNeg y) × Fits w (natAbs y)
+    whole-fits = rw (toZ-ofZ f) (whole z f (rw (toZ-ofZ f) at t) .0)
+
+    pub whole-bits : natAbs (toZ w (ofZ w z)) ≡ ofZ w z
+    whole-bits = rw (toZ-ofZ f) (whole z f (rw (toZ-ofZ f) at t) .1)
+
+  -- a test of bits against zero is one of the number
+  pub bits-zero : (z : ℤ) → SFits w z → eqb (ofZ w z) 0 ≡ eqb (natAbs z) 0
+  bits-zero (pos n) f = refl
+  bits-zero (negsuc n) f =
+      ne-eqb (2 ^ bits w - suc n) 0 (λ (e : 2 ^ bits w - suc n ≡ 0). omega (arith, f .sfits, halves w)) ∙ sym (eqb·suc-zero n)
