@@ -3,13 +3,13 @@
 //     is_text_answered      operation 7, the tree as text
 //     is_line_answered      operation 8, the printed line
 //     is_whole_answered     operation 9, build, rescore, draw
-use crate::layout::table_of;
 use crate::numbers::WORD_BYTES;
 use crate::numbers::put_number;
 use crate::numbers::word_at;
-use crate::stream::is_filled;
 use crate::stream::read_list;
 use crate::stream::read_part;
+use crate::stream::read_room;
+use crate::stream::read_table;
 use crate::stream::write;
 use crate::stream::write_sent;
 use crate::stream::write_table;
@@ -59,8 +59,8 @@ fn answer_tree(t: Table, room: &mut [u32]) {
 }
 
 pub(crate) fn is_tree_answered() -> bool {
-    let mut given = [0u8; 6924];
-    if !is_filled(&mut given) {
+    let given = read_table();
+    if !given.is_whole {
         return false;
     }
     let mut bytes = [0u8; 1024];
@@ -70,7 +70,7 @@ pub(crate) fn is_tree_answered() -> bool {
     }
     let n = part.count;
     let mut room = words_of(&bytes);
-    answer_tree(table_of(&given), &mut room[..n]);
+    answer_tree(given.table, &mut room[..n]);
     true
 }
 
@@ -81,17 +81,17 @@ fn answer_text(t: Table, room: &mut [u8]) {
 }
 
 pub(crate) fn is_text_answered() -> bool {
-    let mut given = [0u8; 6924];
-    if !is_filled(&mut given) {
+    let given = read_table();
+    if !given.is_whole {
         return false;
     }
-    let mut room = [0u8; 512];
-    let part = read_part(&mut room, 1);
-    if !part.is_whole {
+    let room = read_room();
+    if !room.is_whole {
         return false;
     }
-    let end = part.end;
-    answer_text(table_of(&given), &mut room[..end]);
+    let end = room.end;
+    let mut bytes = room.bytes;
+    answer_text(given.table, &mut bytes[..end]);
     true
 }
 
@@ -107,14 +107,14 @@ pub(crate) fn is_line_answered() -> bool {
     if !listed.is_whole {
         return false;
     }
-    let mut room = [0u8; 512];
-    let part = read_part(&mut room, 1);
-    if !part.is_whole {
+    let room = read_room();
+    if !room.is_whole {
         return false;
     }
     let end = listed.end;
-    let room_end = part.end;
-    answer_line(&list[..end], listed.degree, &mut room[..room_end]);
+    let room_end = room.end;
+    let mut bytes = room.bytes;
+    answer_line(&list[..end], listed.degree, &mut bytes[..room_end]);
     true
 }
 

@@ -1,5 +1,4 @@
 // A table as 6,924 bytes: every field as it stands, one after the other, each column whole (docs/PROBE.md, "TABLE").
-//     TABLE_BYTES     how many bytes a table has
 //     table_of        the table that the bytes hold
 //     put_table       the bytes of a table, stored
 use crate::numbers::LONG_BYTES;
@@ -17,9 +16,6 @@ use table::zero_table;
 ghost use mathlib.Core.Path.{_≡_};
 ghost use Prim.Native.Nat.{_<_};
 ghost use lib.ListN.{length};
-
-// How many bytes a table has.
-pub(crate) const TABLE_BYTES: usize = 6924;
 
 // How many rows a table has room for.
 const ROWS: usize = 128;

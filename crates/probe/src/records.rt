@@ -9,6 +9,7 @@ use crate::numbers::wide_bits_of;
 use crate::numbers::word_at;
 use crate::stream::is_filled;
 use crate::stream::read_part;
+use crate::stream::read_room;
 use crate::stream::write;
 use crate::stream::write_sent;
 use cluster::Record;
@@ -64,12 +65,12 @@ pub(crate) fn is_write_answered() -> bool {
     if !is_filled(&mut fields) {
         return false;
     }
-    let mut room = [0u8; 512];
-    let part = read_part(&mut room, 1);
-    if !part.is_whole {
+    let room = read_room();
+    if !room.is_whole {
         return false;
     }
-    let end = part.end;
-    answer_write(fields_of(&fields), &mut room[..end]);
+    let end = room.end;
+    let mut bytes = room.bytes;
+    answer_write(fields_of(&fields), &mut bytes[..end]);
     true
 }

@@ -4,10 +4,15 @@
 //     read_part       a count, then as many pieces of a size
 //     Listed          a degree bound, and how much of a list came
 //     read_list       a degree bound, then a list
+//     Given           a table that came, whole or not
+//     read_table      a table
+//     Room            a room of bytes that came, and how many of them did
+//     read_room       a count, then as many bytes of room
 //     write           bytes, written
 //     write_sent      how an operation ended, written as SENT
 //     write_table     a table, written as TABLE
 use crate::layout::put_table;
+use crate::layout::table_of;
 use crate::numbers::LONG_BYTES;
 use crate::numbers::number_at;
 use crate::numbers::put_number;
@@ -35,6 +40,19 @@ pub(crate) struct Part {
 pub(crate) struct Listed {
     pub is_whole: bool,
     pub degree: u32,
+    pub end: usize,
+}
+
+// A table that came. Where the stream ended before it did, it isn't whole, and the table doesn't count.
+pub(crate) struct Given {
+    pub is_whole: bool,
+    pub table: Table,
+}
+
+// A room as it is before an operation: the first `end` of the bytes. Not whole as `Part` is.
+pub(crate) struct Room {
+    pub is_whole: bool,
+    pub bytes: [u8; 512],
     pub end: usize,
 }
 
@@ -88,6 +106,28 @@ pub(crate) fn read_list(list: &mut [u8]) -> Listed
     Listed {
         is_whole: is_degree && part.is_whole,
         degree: word_at(&degree, 0),
+        end: part.end,
+    }
+}
+
+pub(crate) fn read_table() -> Given {
+    let mut bytes = [0u8; 6924];
+    let is_whole = is_filled(&mut bytes);
+    Given {
+        is_whole,
+        table: table_of(&bytes),
+    }
+}
+
+// A count of two bytes, then as many bytes, at most 512.
+pub(crate) fn read_room() -> Room
+    ensures { λ r. ⌜ Counts (r .end) (r .bytes) ⌝ }
+{
+    let mut bytes = [0u8; 512];
+    let part = read_part(&mut bytes, 1);
+    Room {
+        is_whole: part.is_whole,
+        bytes,
         end: part.end,
     }
 }

@@ -5,13 +5,12 @@
 //     built                   the table of a list, its SENT written
 //     scores_room             a room for as many rescorings as a case can have
 //     rescored                a table rescored, the SENT of each rescoring written
-use crate::layout::table_of;
 use crate::numbers::LONG_BYTES;
 use crate::numbers::number_at;
 use crate::numbers::weight_at;
-use crate::stream::is_filled;
 use crate::stream::read_list;
 use crate::stream::read_part;
+use crate::stream::read_table;
 use crate::stream::write;
 use crate::stream::write_sent;
 use crate::stream::write_table;
@@ -81,8 +80,8 @@ pub(crate) fn rescored(given: Table, scores: &[u8], count: usize) -> Table
 }
 
 pub(crate) fn is_rescore_answered() -> bool {
-    let mut given = [0u8; 6924];
-    if !is_filled(&mut given) {
+    let given = read_table();
+    if !given.is_whole {
         return false;
     }
     let mut scores = scores_room();
@@ -90,7 +89,7 @@ pub(crate) fn is_rescore_answered() -> bool {
     if !part.is_whole {
         return false;
     }
-    write_table(rescored(table_of(&given), &scores, part.count));
+    write_table(rescored(given.table, &scores, part.count));
     true
 }
 
@@ -103,10 +102,10 @@ fn write_flag(flag: bool) {
 }
 
 pub(crate) fn is_fit_answered() -> bool {
-    let mut given = [0u8; 6924];
-    if !is_filled(&mut given) {
+    let given = read_table();
+    if !given.is_whole {
         return false;
     }
-    write_flag(table::is_fit(table_of(&given)));
+    write_flag(table::is_fit(given.table));
     true
 }
