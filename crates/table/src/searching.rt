@@ -1,7 +1,7 @@
 // The search of tuples. The next child holds the highest taxon left, so it is one of a run of rows; the last child is looked up; children
 // left fall. Cites `specs/Searched.antt`.
 //     place_below     how many of the first rows have a smaller cluster, by bisection
-//     starts_of       where the rows of each highest taxon start
+//     put_starts      where the rows of each highest taxon start
 //     part            a row as one part of a tuple
 //     last            the one cover of a cluster by one row
 //     search          the sum over the covers of a cluster
@@ -15,7 +15,7 @@ use cluster::is_inside;
 ghost use mathlib.Core.Path.{_≡_};
 ghost use mathlib.Core.List.{[]};
 ghost use Prim.Native.Nat.{_≤_, _<_};
-ghost use lib.ListN.{length};
+ghost use lib.ListN.{length, replicate};
 ghost use Rattle.table.specs.Tally.{tallyOf};
 ghost use Rattle.table.specs.Searched.{columns, partTally, partsOf, sumCovers, Rising, Past, Below, Starts, Readable, Searchable};
 
@@ -38,18 +38,17 @@ pub(crate) fn place_below(clusters: &[u64], past: usize, n: usize, value: u64) -
     low
 }
 
-// For each taxon, how many of the first `n` rows lie below it.
-pub(crate) fn starts_of(clusters: &[u64], n: usize) -> [usize; 65]
+// For each taxon, how many of the first `n` rows lie below it; the last start stays `n`.
+pub(crate) fn put_starts(starts: &mut [usize; 65], clusters: &[u64], n: usize)
+    requires { ⌜ now starts ≡ replicate 65 n ⌝ }
     requires { ⌜ Rising (now clusters) n ⌝ }
-    ensures { λ r. ⌜ Starts (now (clusters .entry)) n r ⌝ }
+    ensures { λ _. ⌜ Starts (now (clusters .entry)) n (now (starts .exit)) ⌝ }
 {
-    let mut starts = [n; 65];
     let mut taxon: usize = 0;
     while taxon < 64 {
         starts[taxon] = place_below(clusters, 0, n, 1u64 << taxon);
         taxon += 1;
     }
-    starts
 }
 
 // Row `i` as one part of a tuple.

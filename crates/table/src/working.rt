@@ -5,8 +5,8 @@
 use crate::limits::COUNT_MAX;
 use crate::limits::SCORED;
 use crate::limits::WORD_ROWS;
+use crate::searching::put_starts;
 use crate::searching::search;
-use crate::searching::starts_of;
 use crate::table::Table;
 use crate::tally::Tally;
 use crate::tally::none;
@@ -105,7 +105,8 @@ pub(crate) fn again(given: Table, cluster: u64) -> Table
     let n = given.rows;
     let degree = given.degree;
     let mut t = given;
-    let starts = starts_of(&t.clusters, n);
+    let mut starts = [n; 65];
+    put_starts(&mut starts, &t.clusters, n);
     let mut i = 0;
     while i < n {
         if is_inside(cluster, t.clusters[i]) {

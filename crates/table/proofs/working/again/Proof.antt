@@ -1,6 +1,6 @@
 -- `table::working::again` meets its contract. The invariant: the first i rows are the given ones worked out again, and the rest is as
 -- given. The measure is the rows left. Assumes nothing.
-use mathlib.Core.Path.{_≡_, sym, ap, _∙_}
+use mathlib.Core.Path.{_≡_, refl, sym, ap, _∙_}
 use mathlib.Core.Logic.{⊎-elim}
 use Prim.Native.Nat.{_-_, _<_}
 use native.Mathlib.Omega.{arith}
@@ -26,13 +26,13 @@ abbrev μ-loop : tie.MeasureT-loop
 -- ---- places
 
 abbrev start : tie.At-loop Inv-loop μ-loop → tie.Start Inv-loop μ-loop
-start c = c .before .before .before .before .before
+start c = c .before .before .before .before .before .before
 
 -- the row that is worked out
 abbrev in-loop : tie.Then1 Inv-loop μ-loop → tie.In-loop Inv-loop μ-loop
 in-loop c = c .before .before .before
 
-abbrev row : tie.After-starts Inv-loop μ-loop → tie.Then1 Inv-loop μ-loop
+abbrev row : tie.After-starts2 Inv-loop μ-loop → tie.Then1 Inv-loop μ-loop
 row c =
     let fields = c .before .before .before .before .before .before .before .before in
     fields .before .before .before .before .before .before .before .before .before
@@ -48,11 +48,11 @@ narrow c =
 
 -- ---- needs
 
-starts-of-requires : tie.Need-starts-of-requires Inv-loop μ-loop
-starts-of-requires c κs = c .before .before .before .pre .rising
+put-starts-requires : tie.Need-put-starts-requires Inv-loop μ-loop
+put-starts-requires c κs = (refl, c .before .before .before .before .pre .rising)
 
 loop-holds : tie.Need-loop-holds Inv-loop μ-loop
-loop-holds c = let start = c .before .before .before .before in partly-start (start .args .given) (start .args .cluster) (start .pre)
+loop-holds c = let start = c .before .before .before .before .before in partly-start (start .args .given) (start .args .cluster) (start .pre)
 
 mul-is-inside : tie.Need-mul-is-inside Inv-loop μ-loop
 mul-is-inside c = omega (arith, room c)
@@ -79,7 +79,7 @@ worked-requires c κs =
     let s = start at-loop in
     let t = at-loop .loop .t in
     let i = at-loop .loop .i in
-    rw (toZ-ofZ (narrow inside)) (ready-row (s .args .given) (s .args .cluster) (s .pre) t i (at-loop .loop .inv) _ (inside .loop-test .taken) (at-loop .before .starts-of .ensures))
+    rw (toZ-ofZ (narrow inside)) (ready-row (s .args .given) (s .args .cluster) (s .pre) t i (at-loop .loop .inv) _ (inside .loop-test .taken) (at-loop .before .put-starts .ensures))
 
 mul-t : tie.Need-mul-t Inv-loop μ-loop
 mul-t c = omega (arith, room (in-loop (row (c .before .before))))
@@ -152,7 +152,7 @@ again-spec =
     (tie.spec
     Inv-loop
     μ-loop
-    starts-of-requires
+    put-starts-requires
     loop-holds
     mul-is-inside
     element-copy-out-is-inside
