@@ -24,8 +24,8 @@ use Rattle.table.specs.declared.table.Table.{Table}
 use Rattle.table.specs.View.{entriesOf}
 use Rattle.table.specs.Fit.{hasMark, isMarkedIn}
 use Rattle.table.specs.Searched.{clustersDown, Rising}
-use Rattle.table.proofs.Decoded.{marksOf-marked}
 use Rattle.table.proofs.Laws.Marks.{mem-clustersDown, falling-clustersDown, isMarkedIn-is}
+use Rattle.table.proofs.Marked.{marksOf-marked}
 use Rattle.drawing.specs.Marked.{membersTo, scoredTo, weightTo}
 
 abbrev pub Tells : List ℕ → ℕ → (ℕ → Bool) → ℕ → Type 0

@@ -9,35 +9,23 @@ use mathlib.Core.Logic.{_⊎_, inl, inr, _≢_}
 use mathlib.Core.Bool.{Bool, true, false, _&&_}
 use mathlib.Core.List.{List, [], _∷_, map, Memᴰ·map}
 use mathlib.Core.List.{List·Memᴰ as Mem, List·Memᴰ·head as here, List·Memᴰ·tail as there, List·Memᴰ·not-nil as mem-nil}
-use Prim.Native.Nat.{ℕ, suc, _-_, _^_, _≤_, _<_}
+use Prim.Native.Nat.{ℕ, suc, _-_, _≤_, _<_}
 use native.Mathlib.Nat.{le-refl, le-trans}
 use native.Mathlib.Omega.{arith}
-use lib.Dec.{T, ltb, ltb→lt, lt→ltb}
+use lib.Dec.{T, ltb→lt, lt→ltb}
 use lib.ListN.{length}
 use Rattle.laws.specs.Cluster.{inside}
 use Rattle.laws.specs.Limits.{Width}
 use Rattle.laws.proofs.Choose.{few, few-mono}
 use Rattle.laws.proofs.Falling.{Falling}
 use Rattle.laws.proofs.Tests.{T-and, and-T, T-dec, T-true, T-false}
-use Rattle.cluster.specs.declared.record.Record.{Record}
-use Rattle.cluster.specs.Rule.{brokenRule, isKept}
-use Rattle.cluster.proofs.Laws.Rule.{Keeps, kept→keeps}
 use Rattle.trees.specs.Rows.{Row, Entry, cl}
 use Rattle.trees.specs.Result.{Result}
 use Rattle.trees.specs.Rescored.{workedOut, againIf, again}
 use Rattle.table.specs.Fit.{keepsRules, fitEntry, isAbove, fitEntries}
+use Rattle.table.proofs.Decoded.{good-of-fit}
 use Rattle.table.proofs.KeepsFit.{Over, worked-fit}
-use Rattle.table.proofs.Told.{fit→, good-of-fit}
-
--- ---- the record rules of a row
-
-abbrev pub recordOf : Row → Record
-recordOf r = record { cluster = r .cluster; weight = r .weight; state = r .state }
-
-pub rules→ : (W : Width) (r : Row) → T (keepsRules W r) → (r .cluster < 2 ^ W .taxa) × Keeps (recordOf r) false
-rules→ W r h =
-    let q = T-and (ltb (r .cluster) (2 ^ W .taxa)) (isKept (brokenRule (recordOf r) false)) h in
-    (ltb→lt (r .cluster) (2 ^ W .taxa) (q .0), kept→keeps (recordOf r) false (q .1))
+use Rattle.table.proofs.Laws.Fit.{rules→}
 
 -- ---- which rows a table has once rows are worked out again
 
@@ -84,17 +72,19 @@ module _ (W : Width) (one-limit : 1 ≤ W .countMax) (d c : ℕ) (cs : List ℕ)
   F = workedOut W d cs
 
   -- the rows beneath e, as they then stand, may be added up
-  again-over : (e : Entry Result) (t : List (Entry Result)) → Listed W cs (e ∷ t) → ((x : Entry Result) → Mem x (again F c t) → T (fitEntry W cs x))
+  again-over : (e : Entry Result) (t : List (Entry Result)) → Listed W cs (e ∷ t)
+      → ((x : Entry Result) → Mem x (again F c t) → T (fitEntry W cs x))
       → Over (W .countMax) cs (e .row) (again F c t)
   again-over e t k f = record {
     falls = falls;
     full = full;
     listed = k .listed e (here refl);
     light = rules→ W (e .row) (k .rules e (here refl)) .1 .in-range;
-    nonzero = λ x m. let q = again-row F c t x m in λ z. full (cl (q .0)) (k .listed (q .0) (there (q .1))) (sym (ap (λ (r : Row). r .cluster) (q .2)) ∙ z);
+    nonzero = λ x m. let q = again-row F c t x m in
+        λ z. full (cl (q .0)) (k .listed (q .0) (there (q .1))) (sym (ap (λ (r : Row). r .cluster) (q .2)) ∙ z);
     less = λ x m. let q = again-row F c t x m in
         subst (λ (n : ℕ). n < cl e) (sym (ap (λ (r : Row). r .cluster) (q .2))) (k .falls .0 (cl (q .0)) (Memᴰ·map cl (q .1)));
-    good = λ x m s. good-of-fit W cs x (fit→ W cs x (f x m));
+    good = λ x m s. good-of-fit W cs x (f x m);
   }
 
   module _ (e : Entry Result) (t : List (Entry Result)) (k : Listed W cs (e ∷ t)) (short : few (length t) (d - 1) ≤ W .lengthMax)
@@ -123,7 +113,8 @@ module _ (W : Width) (one-limit : 1 ≤ W .countMax) (d c : ℕ) (cs : List ℕ)
       → (x : Entry Result) → Mem x (again F c t) → T (fitEntry W cs x)
   again-fit [] k short f x m = absurd (mem-nil m)
   again-fit (e ∷ t) k short f x m =
-      let top : few (length t) (d - 1) ≤ W .lengthMax = le-trans (few-mono (length t) (suc (length t) - 1) (d - 1) (d - 1) (omega arith) (le-refl (d - 1))) short in
+      let more = few-mono (length t) (suc (length t) - 1) (d - 1) (d - 1) (omega arith) (le-refl (d - 1)) in
+      let top : few (length t) (d - 1) ≤ W .lengthMax = le-trans more short in
       let fewer = le-trans (few-mono (length t - 1) (length t) (d - 1) (d - 1) (omega arith) (le-refl (d - 1))) top in
       again-first e t k top (again-fit t (listed-rest W cs e t k) fewer (λ y i. f y (there i))) (f e (here refl)) x m
 

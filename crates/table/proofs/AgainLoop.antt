@@ -4,10 +4,10 @@
 --     partly-start, partly-skip, partly-store, partly-end     how the loop begins, goes on and ends
 --     ready-row               what working out row i may count on
 -- Assumes nothing.
-use mathlib.Core.Path.{_≡_, refl, sym, ap, ap₂, _∙_, subst, subst₂}
+use mathlib.Core.Path.{_≡_, refl, sym, ap, ap₂, _∙_, subst}
 use mathlib.Core.Logic.{_≢_}
 use mathlib.Core.Bool.{Bool, true, false}
-use mathlib.Core.List.{List, [], _∷_, map, Memᴰ·map}
+use mathlib.Core.List.{List, _∷_}
 use mathlib.Core.List.{List·Memᴰ as Mem, List·Memᴰ·head as here, List·Memᴰ·tail as there, List·Memᴰ·not-nil as mem-nil}
 use Prim.Native.Nat.{ℕ, zero, suc, _+_, _-_, _*_, _/_, _%_, _^_, _≤_, _<_}
 use native.Mathlib.Decide.{decLt, ℕ-discrete}
@@ -34,16 +34,17 @@ use Rattle.table.specs.declared.table.Table.{Table}
 use Rattle.table.specs.declared.tally.Tally.{Tally}
 use Rattle.table.specs.View.{wordValues, rowAt, resultAt, entryAt, entriesOf, tableOf}
 use Rattle.table.specs.Fit.{keepsRules, fitEntry}
-use Rattle.table.specs.Searched.{Columns, columnsOf, clustersDown, rowOf, fieldsOf, Rising, Starts, GoodRow, Sound}
+use Rattle.table.specs.Searched.{columnsOf, clustersDown, rowOf, fieldsOf, Rising, Starts, GoodRow, Sound}
 use Rattle.table.specs.Tally.{fieldsTally}
-use Rattle.table.specs.Working.{workedRow, beneathOf, clustersOf, againTable, Ready, Sized, Workable}
-use Rattle.table.proofs.AgainFit.{recordOf, rules→, again-fit, Listed}
+use Rattle.table.specs.Working.{workedRow, clustersOf, againTable, Ready, Sized, Workable}
+use Rattle.table.proofs.AgainFit.{again-fit, Listed}
 use Rattle.table.proofs.Bare.{bare, worked-bare, beneath-bare}
+use Rattle.table.proofs.Decoded.{good-of-fit}
 use Rattle.table.proofs.Down.{Ascends, mem-down, down-mem, down-length, down-falls, mark-down}
 use Rattle.table.proofs.Laws.Column.{entries-length}
+use Rattle.table.proofs.Laws.Fit.{recordIn, rules→}
 use Rattle.table.proofs.Laws.Stored.{resultIn, stored, stored-same, stored-other, stored-entries, stored-sized}
 use Rattle.table.proofs.Laws.View.{entries-clusters, Blank, blank-past, table-is}
-use Rattle.table.proofs.Told.{fit→, good-of-fit}
 use Rattle.table.proofs.WorkedRow.{worked-marks}
 
 -- ---- the first rows, place by place
@@ -161,7 +162,8 @@ module _ (given : Table) (c : ℕ) (w : Workable given c) where
         subst (λ (x : Entry Result). T (keepsRules narrow (x .row))) (sym (q .2)) (w .rules (q .0) (omega (arith, q .1)));
   }
 
-  given-others : (i : ℕ) → i ≤ given .rows → (e : Entry Result) → Mem e (entriesOf given i) → (T (inside c (cl e)) → ⊥) → T (fitEntry narrow cs e)
+  given-others : (i : ℕ) → i ≤ given .rows → (e : Entry Result) → Mem e (entriesOf given i)
+      → (T (inside c (cl e)) → ⊥) → T (fitEntry narrow cs e)
   given-others i h e m n =
       let q = entries-mem given i e m in
       subst (λ (x : Entry Result). T (fitEntry narrow cs x)) (sym (q .2))
@@ -171,7 +173,8 @@ module _ (given : Table) (c : ℕ) (w : Workable given c) where
     -- the rows passed are fit
     done-fit : (j : ℕ) → j < i → T (fitEntry narrow cs (entryAt t j))
     done-fit j h =
-        again-fit narrow (lit≤ tt) d c cs (given-falls (given .rows) (omega arith)) given-full (entriesOf given i) (given-listed i (p .within))
+        again-fit narrow (lit≤ tt) d c cs (given-falls (given .rows) (omega arith)) given-full
+        (entriesOf given i) (given-listed i (p .within))
         (subst (λ (n : ℕ). few (n - 1) (d - 1) ≤ narrow .lengthMax) (sym (entries-length given i))
         (few-narrow d (i - 1) (w .high) (omega (arith, p .within, w .capped, w .some))))
         (given-others i (p .within)) (entryAt t j) (subst (Mem (entryAt t j)) (p .done) (mem-entries t i j h))
@@ -193,11 +196,14 @@ module _ (given : Table) (c : ℕ) (w : Workable given c) where
       };
       nonzero = λ j l. clusters-same (λ (l : List ℕ). 0 < getD l j 0)
           (positive (getD (given .clusters) j 0) (rules→ narrow (rowAt given j) (w .rules j (omega arith)) .1 .has-taxon));
-      good = λ j l s. clusters-same (λ (l : List ℕ). GoodRow (narrow .countMax) (clustersDown l (given .rows)) (rowOf (columnsOf t) j) (fieldsOf (columnsOf t) j))
-          (bare-good (entryAt t j) (good-of-fit narrow cs (entryAt t j) (fit→ narrow cs (entryAt t j) (done-fit j l))));
+      good = λ j l s. clusters-same (goodAt j) (bare-good (entryAt t j) (good-of-fit narrow cs (entryAt t j) (done-fit j l)));
     }
       where
-        bare-good : (e : Entry Result) → GoodRow (narrow .countMax) cs (e .row) (e .val) → GoodRow (narrow .countMax) cs (bare e .row) (bare e .val)
+        goodAt : ℕ → List ℕ → Type 0
+        goodAt j l = GoodRow (narrow .countMax) (clustersDown l (given .rows)) (rowOf (columnsOf t) j) (fieldsOf (columnsOf t) j)
+
+        bare-good : (e : Entry Result) → GoodRow (narrow .countMax) cs (e .row) (e .val)
+            → GoodRow (narrow .countMax) cs (bare e .row) (bare e .val)
         bare-good e g = record { counted = g .counted; marked = g .marked; told = g .told }
 
     pub ready-row : (starts : List ℕ) → i < given .rows → Starts (given .clusters) (given .rows) starts
@@ -225,7 +231,7 @@ module _ (given : Table) (c : ℕ) (w : Workable given c) where
       light = subst (λ (l : List ℤ). natAbs (getD l i (pos 0)) ≤ weightMax) (sym (p .weights)) (k .1 .in-range);
     }
       where
-        k : (rowAt given i .cluster < 2 ^ narrow .taxa) × Keeps (recordOf (rowAt given i)) false
+        k : (rowAt given i .cluster < 2 ^ narrow .taxa) × Keeps (recordIn (rowAt given i)) false
         k = rules→ narrow (rowAt given i) (w .rules i h)
 
     pub weight-fits : i < given .rows → SFits w32 (getD (t .weights) i (pos 0))
@@ -237,7 +243,8 @@ module _ (given : Table) (c : ℕ) (w : Workable given c) where
     -- ---- row i worked out and stored
 
     -- the code's row is the paper's, over the rows as they stand
-    row-again : i < given .rows → workedRow (columnsOf t) (getD (t .weights) i (pos 0)) i (given .degree) ≡ F (rowAt given i) (again F c (entriesOf given i))
+    row-again : i < given .rows
+        → workedRow (columnsOf t) (getD (t .weights) i (pos 0)) i (given .degree) ≡ F (rowAt given i) (again F c (entriesOf given i))
     row-again h =
         ap (workedOut narrow d (clustersDown (t .clusters) (suc i)) (rowAt t i)) (beneath-bare t i)
         ∙ worked-bare narrow d (clustersDown (t .clusters) (suc i)) (rowAt t i) (entriesOf t i)

@@ -12,17 +12,19 @@ use native.Mathlib.Nat.{pow-zero, one-le-pow, pow-le-pow-left, pow-succ', mul-le
 use native.Mathlib.Omega.{arith}
 use lib.Dec.{T, eqb}
 use lib.ListN.{length, length-append, length-map}
-use Rattle.laws.specs.Cluster.{inside}
+use Rattle.laws.specs.Cluster.{inside, unionOf}
 use Rattle.laws.specs.Lists.{keep, sublists}
 use Rattle.laws.proofs.Keep.{mem-of-keep, length-keep-le}
 use Rattle.laws.proofs.Sublists.{mem-of-sublist}
 use Rattle.trees.specs.Rows.{Entry, cl, sc}
+use Rattle.trees.specs.Tuple.{allApart}
 use Rattle.trees.proofs.Capped.{Res}
 use Rattle.trees.proofs.Covers.{cover→, isCover, coversOf, takeIf, chosen, chosen-is}
-use Rattle.trees.proofs.Kind.{prodK}
+use Rattle.trees.proofs.Keys.{countKind, solKind}
+use Rattle.trees.proofs.Kind.{hom-second}
 use Rattle.table.specs.Searched.{sumKind, sumCovers}
 use Rattle.table.proofs.Laws.Searched.{sumCovers-over}
-use Rattle.table.proofs.Held.{Keeps, keeps-fewer, Part, prod-one, prod-keeps, sum-keeps, sum-count}
+use Rattle.table.proofs.Held.{Keeps, Part, sum-keeps, sum-count}
 
 -- ---- how many covers
 
@@ -56,24 +58,26 @@ module _ {A : Type 0} where
 -- ---- sums over the covers by scored rows
 
 module _ (cs : List ℕ) (b : ℕ) (es : List (Entry Res)) (parts : (e : Entry Res) → Mem e es → T (sc e) → Part cs b e) where
-  row-part : (τ : List (Entry Res)) → Mem τ (sublists (keep sc es)) → (e : Entry Res) → Mem e τ → Part cs b e
-  row-part τ m e k = let q = mem-of-keep sc es (mem-of-sublist (keep sc es) τ m e k) in parts e (q .0) (q .1)
+  row-part : (n R : ℕ) (τ : List (Entry Res)) → Mem τ (coversOf n R (keep sc es)) → (e : Entry Res) → Mem e τ → Part cs b e
+  row-part n R τ m e k =
+      let p = mem-of-keep (isCover n R) (sublists (keep sc es)) m .0 in
+      let q = mem-of-keep sc es (mem-of-sublist (keep sc es) τ p e k) in
+      parts e (q .0) (q .1)
 
   pub sumCovers-keeps : (n R : ℕ) → Keeps cs b 0 R (sumCovers n R es .1)
-  sumCovers-keeps n R = rw (sumCovers-over n R es) (sum-keeps cs b 0 R (coversOf n R (keep sc es)) each)
+  sumCovers-keeps n R =
+      rw (sumCovers-over n R es)
+      (sum-keeps cs b sumKind (λ (x : Res). x .1) (λ (c : ℕ). 0) (hom-second countKind (solKind (λ (c : ℕ). 0))) 0 R
+      (coversOf n R (keep sc es)) makes (λ τ m e k. row-part n R τ m e k .keeps))
     where
-      each : (τ : List (Entry Res)) → Mem τ (coversOf n R (keep sc es)) → Keeps cs b 0 R (prodK sumKind τ .1)
-      each τ m =
-          let q = mem-of-keep (isCover n R) (sublists (keep sc es)) m in
-          let f = cover→ n R (map cl τ) (q .1) in
-          keeps-fewer cs b 0 (length τ) R (prodK sumKind τ .1) zero-le
-          (subst (λ (x : ℕ). Keeps cs b (length τ) x (prodK sumKind τ .1)) (f .union) (prod-keeps cs b τ (row-part τ (q .0)) (f .apart)))
+      makes : (τ : List (Entry Res)) → Mem τ (coversOf n R (keep sc es))
+          → (0 ≤ length τ) × T (allApart (map cl τ)) × (unionOf (map cl τ) ≡ R)
+      makes τ m =
+          let f = cover→ n R (map cl τ) (mem-of-keep (isCover n R) (sublists (keep sc es)) m .1) in
+          (zero-le, f .apart, f .union)
 
   pub sumCovers-count : (n R : ℕ) → sumCovers n R es .0 ≡ length (coversOf n R (keep sc es))
-  sumCovers-count n R = rw (sumCovers-over n R es) (sum-count (coversOf n R (keep sc es)) each)
-    where
-      each : (τ : List (Entry Res)) → Mem τ (coversOf n R (keep sc es)) → prodK sumKind τ .0 ≡ 1
-      each τ m = prod-one cs b τ (row-part τ (mem-of-keep (isCover n R) (sublists (keep sc es)) m .0))
+  sumCovers-count n R = rw (sumCovers-over n R es) (sum-count (coversOf n R (keep sc es)) (λ τ m e k. row-part n R τ m e k .one))
 
   pub sumCovers-few : (n R : ℕ) → sumCovers n R es .0 ≤ suc (length es) ^ n
   sumCovers-few n R =

@@ -7,24 +7,21 @@
 --     built-fit                      a built table is fit
 -- Assumes nothing.
 use mathlib.Core.Path.{_≡_, refl, sym, ap, ap₂, _∙_, subst}
-use mathlib.Core.Logic.{_⊎_, inl, inr, _≢_}
+use mathlib.Core.Logic.{_≢_}
 use mathlib.Core.Bool.{Bool, true, false, cond, _&&_}
 use mathlib.Core.List.{List, [], _∷_, map, Memᴰ·map, Memᴰ·of-map}
 use mathlib.Core.List.{List·Memᴰ as Mem}
-use Prim.Native.Nat.{ℕ, suc, _-_, _^_, _≤_, _<_}
-use native.Mathlib.Nat.{le-trans}
+use Prim.Native.Nat.{ℕ, _-_, _^_, _≤_, _<_}
 use native.Mathlib.Omega.{arith}
-use lib.Dec.{T, eqb, leb, leb→le, le→leb, ltb, lt→ltb, lit≤}
+use lib.Dec.{T, eqb, leb, leb→le, le→leb, lit≤}
 use lib.IntN.{ℤ}
 use lib.ListN.{length, length-map}
 use Rattle.laws.specs.Cluster.{inside}
 use Rattle.laws.specs.Limits.{narrow, degreeLow, degreeHigh}
-use Rattle.laws.proofs.Choose.{few, few-mono}
 use Rattle.laws.proofs.Cluster.{zero-inside}
 use Rattle.laws.proofs.Falling.{Falling}
 use Rattle.laws.proofs.Tests.{T-and, and-T, T-true}
-use Rattle.cluster.specs.Rule.{brokenRule, isKept}
-use Rattle.cluster.proofs.Laws.Rule.{Keeps, kept→keeps, keeps→kept}
+use Rattle.cluster.proofs.Laws.Rule.{Keeps, kept→keeps}
 use Rattle.trees.specs.Rows.{Row, clustersOf, Entry, cl}
 use Rattle.trees.specs.Result.{Result, blank}
 use Rattle.trees.specs.Built.{builtTable}
@@ -38,10 +35,10 @@ use Rattle.table.specs.declared.table.Table.{Table}
 use Rattle.table.specs.View.{rowCap, entriesOf, tableOf}
 use Rattle.table.specs.Fit.{keepsRules, fitEntry, fitEntries, blankFrom, isFit}
 use Rattle.table.specs.Rescore.{isScore, newTable}
-use Rattle.table.proofs.AgainFit.{recordOf, rules→, again-length, again-clusters, Listed, again-fit, →entries-fit, entries-fit→}
+use Rattle.table.proofs.AgainFit.{again-length, again-clusters, Listed, again-fit, →entries-fit, entries-fit→}
 use Rattle.table.proofs.Laws.Column.{entries-length}
+use Rattle.table.proofs.Laws.Fit.{recordIn, rules→, →rules, fit-rules}
 use Rattle.table.proofs.Laws.View.{entries-table, table-blank}
-use Rattle.table.proofs.Told.{FitEntry, fit→}
 
 -- ---- the test as facts
 
@@ -174,23 +171,20 @@ module _ (c : ℕ) (z : ℤ) (s : ℕ) (score : T (isScore z s)) where
   pub put-rules : (r : Row) → T (keepsRules narrow r) → T (keepsRules narrow (putScore c z s r))
   put-rules r h = go (eqb (r .cluster) c)
     where
-      q : (r .cluster < 2 ^ narrow .taxa) × Keeps (recordOf r) false
+      q : (r .cluster < 2 ^ narrow .taxa) × Keeps (recordIn r) false
       q = rules→ narrow r h
 
       p : Keeps (record { cluster = 1; weight = z; state = s }) false
       p = kept→keeps (record { cluster = 1; weight = z; state = s }) false score
 
-      kept : T (isKept (brokenRule (record { cluster = r .cluster; weight = z; state = s }) false))
-      kept = keeps→kept (record { cluster = r .cluster; weight = z; state = s }) false (record {
+      go : (b : Bool) → T (keepsRules narrow (cond b (record { cluster = r .cluster; weight = z; state = s }) r))
+      go true = →rules narrow (record { cluster = r .cluster; weight = z; state = s }) (q .0) (record {
         has-taxon = q .1 .has-taxon;
         has-state = p .has-state;
         no-spare = refl;
         no-weight = p .no-weight;
         in-range = p .in-range;
       })
-
-      go : (b : Bool) → T (keepsRules narrow (cond b (record { cluster = r .cluster; weight = z; state = s }) r))
-      go true = and-T (ltb (r .cluster) (2 ^ narrow .taxa)) _ (lt→ltb (r .cluster) (2 ^ narrow .taxa) (q .0)) kept
       go false = h
 
   put-clusters : (es : List (Entry Result)) → map cl (map withScore es) ≡ map cl es
@@ -208,7 +202,7 @@ module _ (c : ℕ) (z : ℤ) (s : ℕ) (score : T (isScore z s)) where
       rules = λ x m.
           let q = Memᴰ·of-map withScore es m in
           subst (λ (e : Entry Result). T (keepsRules narrow (e .row))) (q .2)
-          (put-rules (q .0 .row) (fit→ narrow (map cl es) (q .0) (k .fit (q .0) (q .1)) .rules));
+          (put-rules (q .0 .row) (fit-rules narrow (map cl es) (q .0) (k .fit (q .0) (q .1))));
     }
 
     -- the rows that don't contain c stay

@@ -1,11 +1,9 @@
 -- the laws of the definitions in specs/
 pub mod Laws
 -- marks as numbers
-mod Marked
--- what a fit row's fields tell
-mod Told
--- what rows stand for, their sums and products
-mod Good
+pub mod Marked
+-- a row's own result
+mod Rooted
 -- a row worked out from fit rows is fit
 pub mod KeepsFit
 -- every row of a table worked out again is fit

@@ -2,6 +2,7 @@
 --     marked-mem                       a marked cluster is the cluster of a row
 --     every-marked→, →every-marked     what holds of every marked row's cluster
 --     marks-marked                     the marks of the marked clusters are the number's low digits, one for each row
+--     marksOf-marked                   so marks below as many digits are the marks of the clusters that they mark
 -- Assumes nothing.
 use mathlib.Core.Path.{_≡_, refl, sym, ap, ap₂, _∙_}
 use mathlib.Core.Logic.{_⊎_, inl, inr}
@@ -9,7 +10,7 @@ use mathlib.Core.Bool.{Bool, true, false, not, cond, _&&_, _||_}
 use mathlib.Core.List.{List, [], _∷_}
 use mathlib.Core.List.{List·Memᴰ as Mem, List·Memᴰ·head as here, List·Memᴰ·tail as there}
 use Prim.Native.Nat.{ℕ, zero, suc, _+_, _*_, _/_, _%_, _^_, _<_}
-use native.Mathlib.Nat.{mod-lt, mod-one, one-mul, zero-mul}
+use native.Mathlib.Nat.{mod-lt, mod-one, mod-eq-of-lt, one-mul, zero-mul}
 use native.Mathlib.Numerals.{one-add}
 use native.Mathlib.Omega.{arith}
 use lib.Dec.{T, eqb, eqb→eq, eqb-refl, T-not, not-T, lit<}
@@ -93,3 +94,6 @@ marks-marked (c ∷ cs) m f =
     ap₂ (λ (b : Bool) (n : ℕ). cond b (2 ^ length cs + n) n) (marked-first c cs m f)
     (marks-ext cs (isMarkedIn (c ∷ cs) m) (isMarkedIn cs m) (marked-rest c cs m f) ∙ marks-marked cs m (f .1))
     ∙ sym (mod-digit m (length cs))
+
+pub marksOf-marked : (cs : List ℕ) (m : ℕ) → Falling cs → m < 2 ^ length cs → m ≡ marksIn cs (isMarkedIn cs m)
+marksOf-marked cs m f h = sym (marks-marked cs m f ∙ mod-eq-of-lt h)

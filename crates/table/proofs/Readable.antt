@@ -97,7 +97,7 @@ module _ (limit : ℕ) (k : Columns) (cs : List ℕ) (n : ℕ) (s : Sound limit 
 
   pub part-is : LowWords k → (i : ℕ) → i < n → T (isScored (rowOf k i)) → partTally k i ≡ tallyOf limit (1, decoded (fieldsOf k i))
   part-is w i h t =
-      fields-tally limit cs (rowOf k i) (fieldsOf k i) (s .good i h t) (s .one) 1 (getD (k .lows) i 0) (getD (k .highs) i 0) (w i) refl
+      fields-tally limit cs (rowOf k i) (fieldsOf k i) (s .good i h t) 1 (getD (k .lows) i 0) (getD (k .highs) i 0) (w i) refl
 
   -- ---- the one cover by one row
 

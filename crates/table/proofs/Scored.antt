@@ -9,19 +9,18 @@ use mathlib.Core.Path.{_≡_, refl, sym, ap, ap₂, _∙_, subst}
 use mathlib.Core.Logic.{_≢_}
 use mathlib.Core.Bool.{Bool, true, false, cond}
 use mathlib.Core.List.{List, _∷_, map}
-use mathlib.Core.List.{List·Memᴰ as Mem}
 use Prim.Native.Nat.{ℕ, zero, suc, _-_, _≤_, _<_}
 use native.Mathlib.Decide.{decLt, ℕ-discrete}
 use native.Mathlib.Omega.{arith}
 use borrow.Author.Tests.{eq-eqb, ne-eqb, lt-ltb, le-ltb}
 use lib.Dec.{T}
 use lib.IntN.{ℤ, pos}
-use lib.ListN.{length, getD, set, length-set}
+use lib.ListN.{getD, set, length-set}
 use lib.Seq.{getD-set-same, getD-set-other}
 use Rattle.laws.specs.Cluster.{inside}
 use Rattle.laws.specs.Limits.{narrow}
 use Rattle.laws.proofs.Cluster.{inside-refl}
-use Rattle.trees.specs.Rows.{Row, Entry, cl}
+use Rattle.trees.specs.Rows.{Entry}
 use Rattle.trees.specs.Result.{Result}
 use Rattle.trees.specs.Rescored.{putScore, workedOut, again}
 use Rattle.table.specs.declared.table.Table.{Table}
@@ -30,12 +29,10 @@ use Rattle.table.specs.Fit.{keepsRules, fitEntry, isEmpty, isFit}
 use Rattle.table.specs.Rescore.{isScore, hasRow, newTable}
 use Rattle.table.specs.Rows.{placeOf}
 use Rattle.table.specs.Working.{clustersOf, againTable, Sized, Workable}
-use Rattle.table.proofs.AgainLoop.{mem-entries}
 use Rattle.table.proofs.FitTables.{put-rules}
-use Rattle.table.proofs.Laws.Fit.{FitTable, isFit→, →blankFrom}
+use Rattle.table.proofs.Laws.Fit.{FitTable, isFit→, →blankFrom, fit-rules}
 use Rattle.table.proofs.Laws.Marks.{clusters-are}
 use Rattle.table.proofs.Laws.Rows.{hasRow-is, placeOf-first}
-use Rattle.table.proofs.Told.{fit→}
 
 -- ---- the row of the cluster, as the code looks it up
 
@@ -117,9 +114,12 @@ module _ (t : Table) (c : ℕ) (z : ℤ) (s : ℕ) (sized : Sized t) (fit : T (i
         val = entryAt t j .val;
       }
 
+      scored : ℕ → Entry Result
+      scored n = record { row = record { cluster = getD (t .clusters) n 0; weight = z; state = s }; val = entryAt t n .val }
+
       go : Dec (j ≡ i) → entryAt new j ≡ put (lib.Dec.eqb (getD (t .clusters) j 0) c)
       go (yes e) =
-          subst (λ (n : ℕ). entryAt new n ≡ record { row = record { cluster = getD (t .clusters) n 0; weight = z; state = s }; val = entryAt t n .val }) (sym e)
+          subst (λ (n : ℕ). entryAt new n ≡ scored n) (sym e)
           (score-same t i z s sized (omega (arith, facts .capped)))
           ∙ ap put (sym (eq-eqb (getD (t .clusters) j 0) c (ap (λ (n : ℕ). getD (t .clusters) n 0) e ∙ found)))
       go (no n) = score-other t i z s j n ∙ ap put (sym (ne-eqb (getD (t .clusters) j 0) c (only j h n)))
@@ -157,12 +157,13 @@ module _ (t : Table) (c : ℕ) (z : ℤ) (s : ℕ) (sized : Sized t) (fit : T (i
   score-rules : T (isScore z s) → (j : ℕ) → j < t .rows → T (keepsRules narrow (rowAt new j))
   score-rules k j h =
       subst (λ (e : Entry Result). T (keepsRules narrow (e .row))) (sym (score-entry j h))
-      (put-rules c z s k (rowAt t j) (fit→ narrow (clustersOf t) (entryAt t j) (given-fit j h) .rules))
+      (put-rules c z s k (rowAt t j) (fit-rules narrow (clustersOf t) (entryAt t j) (given-fit j h)))
 
   -- a row that doesn't contain c isn't the row of c
   score-fit : (j : ℕ) → j < t .rows → (T (inside c (getD (t .clusters) j 0)) → ⊥) → T (fitEntry narrow (clustersOf new) (entryAt new j))
   score-fit j h n =
-      let other : j ≢ i = λ e. n (subst (λ (x : ℕ). T (inside c x)) (sym (ap (λ (m : ℕ). getD (t .clusters) m 0) e ∙ found)) (inside-refl c)) in
+      let at : j ≡ i → getD (t .clusters) j 0 ≡ c = λ e. ap (λ (m : ℕ). getD (t .clusters) m 0) e ∙ found in
+      let other : j ≢ i = λ e. n (subst (λ (x : ℕ). T (inside c x)) (sym (at e)) (inside-refl c)) in
       subst (λ (e : Entry Result). T (fitEntry narrow (clustersOf t) e)) (sym (score-other t i z s j other)) (given-fit j h)
 
   pub score-workable : T (isScore z s) → ((j : ℕ) → j < t .rows → getD (t .«members_low») j 0 < wordValues) → Workable new c

@@ -12,22 +12,21 @@ use mathlib.Core.Bool.{Bool, true, false, not, cond, _&&_}
 use mathlib.Core.Option.{Option, none, some}
 use mathlib.Core.List.{List, [], _∷_, map}
 use mathlib.Core.List.{List·Memᴰ as Mem, List·Memᴰ·head as here, List·Memᴰ·tail as there, List·Memᴰ·not-nil as mem-nil}
-use Prim.Native.Nat.{ℕ, zero, suc, _+_, _-_, _*_, _/_, _%_, _^_, _≤_, _<_}
+use Prim.Native.Nat.{ℕ, zero, suc, _+_, _-_, _/_, _%_, _^_, _≤_, _<_}
 use native.Mathlib.Decide.{decLe}
 use native.Mathlib.Nat.{add-zero, le-refl, lt-of-lt-of-le, one-mul}
-use native.Mathlib.Numerals.{one-add}
 use native.Mathlib.Omega.{arith}
 use borrow.Author.Tests.{eq-eqb, ne-eqb}
 use lib.Dec.{T, lit≤}
 use lib.Count.{ones-le}
-use lib.IntN.{ℤ, pos, natAbs, _+ℤ_}
+use lib.IntN.{ℤ, pos, _+ℤ_}
 use lib.ListN.{length, length-map, getD}
 use lib.Pow.{pow-mono, shr-lt}
 use lib.Signed.{mag}
 use mir.Syntax.{w64}
 use mir.Val.{SFits}
-use Rattle.laws.specs.Cluster.{size, single, highest}
-use Rattle.laws.specs.Limits.{Width, narrow, weightMax}
+use Rattle.laws.specs.Cluster.{single, highest}
+use Rattle.laws.specs.Limits.{Width, narrow}
 use Rattle.laws.specs.Lists.{keep, sublists}
 use Rattle.laws.proofs.Integers.{abs-sum-le, mag-le-abs}
 use Rattle.laws.proofs.Keep.{keep-map, keep-all, mem-of-keep}
@@ -37,7 +36,7 @@ use Rattle.trees.specs.Rows.{Row, isScored, scored, Entry, cl, sc}
 use Rattle.trees.specs.Tuple.{isTuple, tuples}
 use Rattle.trees.specs.Result.{Result, blank, marksIn}
 use Rattle.trees.specs.Rescored.{Key, keyOf, firstKey, isLive, ownMark, joined, alone, together, workedOut}
-use Rattle.trees.proofs.Capped.{Res, encode, encodeSol, count-small, second}
+use Rattle.trees.proofs.Capped.{Res, encode, count-small, second}
 use Rattle.trees.proofs.Covers.{coversOf, tuples-are-covers}
 use Rattle.trees.proofs.Families.{Fam, one, join}
 use Rattle.trees.proofs.Keys.{Sol, plusSol, timesSol, countKind, solKind}
@@ -46,16 +45,18 @@ use Rattle.trees.proofs.Marks.{marks-lt, marks-join, no-carry}
 use Rattle.trees.proofs.Worked.{markIn, lengthIf, trueResult}
 use Rattle.table.specs.declared.tally.Tally.{Tally}
 use Rattle.table.specs.View.{wordValues}
-use Rattle.table.specs.Searched.{Columns, rowOf, fieldsOf, clustersDown, Rising, Below, Starts, Long, GoodRow, Readable, Searchable}
-use Rattle.table.specs.Searched.{sumKind, sumCovers, partAt, partsOf}
+use Rattle.table.specs.Searched.{Columns, rowOf, fieldsOf, clustersDown, Long, GoodRow, Searchable}
+use Rattle.table.specs.Searched.{sumKind, sumCovers, partsOf}
 use Rattle.table.specs.Tally.{tallyWith, tallyOf, fieldsTally, noTally, lowMark, highMark, ownTally, underTally, decoded}
 use Rattle.table.specs.Working.{beneathOf, rowWith, workedRow, Ready}
-use Rattle.table.proofs.Down.{mem-down, down-mem, mark-down}
+use Rattle.table.proofs.Decoded.{tally-encode}
+use Rattle.table.proofs.Down.{down-mem, mark-down}
 use Rattle.table.proofs.Encoded.{Clear, tally-under}
-use Rattle.table.proofs.Good.{Good, GoodSol, mine, own-disj}
-use Rattle.table.proofs.KeepsFit.{decode, Over, counted-of-good, beneath, worked-is, found-good}
-use Rattle.table.proofs.Laws.Searched.{below-le}
+use Rattle.table.proofs.Held.{Keeps, keeps-counted, sum-count}
+use Rattle.table.proofs.KeepsFit.{decode, Over, beneath, worked-is, found-keeps}
+use Rattle.table.proofs.Laws.Searched.{below-le, mem-parts}
 use Rattle.table.proofs.Laws.Working.{low-mark-is, high-mark-is}
+use Rattle.table.proofs.Rooted.{mine, own-disj}
 
 -- ---- the rows beneath
 
@@ -76,7 +77,9 @@ module _ (W : Width) (d : ℕ) (r : Row) (cs cs′ : List ℕ) (e : ownMark cs r
   joined-marks n τs (some k) = ap (λ (m : ℕ). withMembers (m + k .1)) e
     where
       withMembers : ℕ → Result
-      withMembers m = let v = joined W cs r n τs (some k) in record { length = v .length; count = v .count; mark = v .mark; best = v .best; members = m }
+      withMembers m =
+          let v = joined W cs r n τs (some k) in
+          record { length = v .length; count = v .count; mark = v .mark; best = v .best; members = m }
 
   pub worked-marks : (t : List (Entry Result)) → workedOut W d cs r t ≡ workedOut W d cs′ r t
   worked-marks t =
@@ -86,13 +89,6 @@ module _ (W : Width) (d : ℕ) (r : Row) (cs cs′ : List ℕ) (e : ownMark cs r
       (joined-marks (length τs) τs (firstKey (map keyOf (keep isLive τs))))
 
 -- ---- rows as what they stand for
-
-tally-encode : (limit : ℕ) (x : Res) → fieldsTally (encode limit x) ≡ tallyOf limit x
-tally-encode limit x = go (x .1)
-  where
-    go : (v : Option Sol) → fieldsTally (encodeSol limit (x .0) v) ≡ tallyWith limit (x .0) v
-    go none = refl
-    go (some y) = refl
 
 kept-seconds : (l : List (Entry Result)) → keep sc (map second (map decode l)) ≡ map second (map decode (keep sc l))
 kept-seconds l = keep-map second sc (map decode l) ∙ ap (map second) (keep-map decode sc l)
@@ -104,16 +100,6 @@ same-seconds k (suc n) =
 
 -- ---- sums
 
--- every part of a tuple counts as one
-prod-one : (τ : List (Entry Res)) → ((e : Entry Res) → Mem e τ → e .val .0 ≡ 1) → prodK sumKind τ .0 ≡ 1
-prod-one [] f = refl
-prod-one (e ∷ τ) f = ap₂ (λ (m n : ℕ). m * n) (f e (here refl)) (prod-one τ (λ x m. f x (there m)))
-
-sum-one : (τs : List (List (Entry Res))) → ((τ : List (Entry Res)) → Mem τ τs → (e : Entry Res) → Mem e τ → e .val .0 ≡ 1)
-    → overTuples sumKind τs .0 ≡ length τs
-sum-one [] f = refl
-sum-one (τ ∷ τs) f = ap₂ (λ (m n : ℕ). m + n) (prod-one τ (f τ (here refl))) (sum-one τs (λ σ m. f σ (there m))) ∙ one-add (length τs)
-
 -- a row's own mark plays no part in sums of products
 module _ (bit bit′ : ℕ → ℕ) where
   prod-bits : (τ : List (Entry (Option Sol))) → prodK (solKind bit) τ ≡ prodK (solKind bit′) τ
@@ -123,11 +109,6 @@ module _ (bit bit′ : ℕ → ℕ) where
   sum-bits : (τs : List (List (Entry (Option Sol)))) → overTuples (solKind bit) τs ≡ overTuples (solKind bit′) τs
   sum-bits [] = refl
   sum-bits (τ ∷ τs) = ap₂ plusSol (prod-bits τ) (sum-bits τs)
-
-part-mem : (k : Columns) (n : ℕ) (e : Entry Res) → Mem e (partsOf k n) → (j : ℕ) × (j < n) × (e ≡ partAt k j)
-part-mem k zero e m = absurd (mem-nil m)
-part-mem k (suc n) e (here p) = (n, omega arith, p)
-part-mem k (suc n) e (there m) = let q = part-mem k n e m in (q .0, omega (arith, q .1), q .2)
 
 -- ---- a set in two words, with none or with another beside it
 
@@ -211,7 +192,8 @@ module _ (k : Columns) (starts : List ℕ) (z : ℤ) (i d : ℕ) (R : Ready k st
   parts-are : keep sc (map second rows) ≡ parts
   parts-are =
       ap (keep sc) (sym (kept-seconds (beneathOf k i)))
-      ∙ keep-all sc (keep sc (map second (map decode (beneathOf k i)))) (λ e m. mem-of-keep sc (map second (map decode (beneathOf k i))) m .1)
+      ∙ keep-all sc (keep sc (map second (map decode (beneathOf k i))))
+      (λ e m. mem-of-keep sc (map second (map decode (beneathOf k i))) m .1)
       ∙ ap (keep sc) (same-seconds k i)
 
   length-is : length (tuples d C (keep sc rows)) ≡ length (tuples d C parts)
@@ -226,7 +208,7 @@ module _ (k : Columns) (starts : List ℕ) (z : ℤ) (i d : ℕ) (R : Ready k st
 
   part-below : (e : Entry Res) → Mem e scoredParts → (cl e < C) × (e .val .0 ≡ 1)
   part-below e m =
-      let q = part-mem k i e (mem-of-keep sc (partsOf k i) m .0) in
+      let q = mem-parts k i e (mem-of-keep sc (partsOf k i) m .0) in
       (omega (arith, ap cl (q .2), R .rising .up (q .0) i (q .1) (R .place)), ap (λ (x : Entry Res). x .val .0) (q .2))
 
   covers-are : coversOf (d - 1) C scoredParts ≡ tuples d C scoredParts
@@ -237,7 +219,7 @@ module _ (k : Columns) (starts : List ℕ) (z : ℤ) (i d : ℕ) (R : Ready k st
 
   found-first : overTuples sumKind (tuples d C scoredParts) .0 ≡ found .0
   found-first =
-      sum-one (tuples d C scoredParts) each
+      sum-count (tuples d C scoredParts) each
       ∙ sym (length-map (tuples d C scoredParts) (map second))
       ∙ ap length seconds-are
     where
@@ -248,7 +230,8 @@ module _ (k : Columns) (starts : List ℕ) (z : ℤ) (i d : ℕ) (R : Ready k st
 
   found-second : overTuples sumKind (tuples d C scoredParts) .1 ≡ found .1
   found-second =
-      sym (hom-sum sumKind (solKind (λ (c : ℕ). 0)) (λ (x : Res). x .1) (hom-second countKind (solKind (λ (c : ℕ). 0))) (tuples d C scoredParts))
+      sym (hom-sum sumKind (solKind (λ (c : ℕ). 0)) (λ (x : Res). x .1) (hom-second countKind (solKind (λ (c : ℕ). 0)))
+      (tuples d C scoredParts))
       ∙ sum-bits (λ (c : ℕ). 0) (markIn cs) (map (map second) (tuples d C scoredParts))
       ∙ ap (overTuples (solKind (markIn cs))) seconds-are
 
@@ -258,13 +241,14 @@ module _ (k : Columns) (starts : List ℕ) (z : ℤ) (i d : ℕ) (R : Ready k st
 
   truth-is : isScored r ≡ true → single C ≡ false → truth ≡ (found .0, timesSol (some (mine cs C z)) (found .1))
   truth-is s b =
-      ap₂ (λ (x y : Bool). (lengthIf (x && not y) (length (tuples d C (keep sc rows))), valueIf (solKind (markIn cs)) x y d r (map second rows))) s b
+      ap₂ (λ (x y : Bool).
+      (lengthIf (x && not y) (length (tuples d C (keep sc rows))), valueIf (solKind (markIn cs)) x y d r (map second rows))) s b
       ∙ (λ j. (length-is j, timesSol (some (mine cs C z)) (overTuples (solKind (markIn cs)) (tuples d C (parts-are j)))))
 
-  found-bounds : GoodSol cs C C 2 (found .1)
+  found-bounds : Keeps cs C 2 C (found .1)
   found-bounds =
-      subst (λ (es : List (Entry (Option Sol))). GoodSol cs C C 2 (overTuples (solKind (markIn cs)) (tuples d C es))) parts-are
-      (found-good narrow one-limit d cs r (beneathOf k i) ready-over)
+      subst (λ (es : List (Entry (Option Sol))). Keeps cs C 2 C (overTuples (solKind (markIn cs)) (tuples d C es))) parts-are
+      (found-keeps narrow one-limit d cs r (beneathOf k i) ready-over)
 
   -- ---- the row itself, with one tuple
   own-low : lowMark i ≡ markIn cs C % wordValues
@@ -286,17 +270,17 @@ module _ (k : Columns) (starts : List ℕ) (z : ℤ) (i d : ℕ) (R : Ready k st
       }
 
   -- the row's own mark and its children's members share no row
-  own-clear : (v : Option Sol) → GoodSol cs C C 2 v → Clear (some (mine cs C z)) v
+  own-clear : (v : Option Sol) → Keeps cs C 2 C v → Clear (some (mine cs C z)) v
   own-clear none g = tt
   own-clear (some x) g =
-      subst (λ (n : ℕ). markIn cs C % wordValues + n % wordValues < wordValues) (sym (g .marks))
-      (no-carry 64 cs (one C) (g .family) (own-disj cs C 2 x g))
+      subst (λ (n : ℕ). markIn cs C % wordValues + n % wordValues < wordValues) (sym (g .coded))
+      (no-carry 64 cs (one C) (g .members) (own-disj cs C 2 x g))
 
   under-is : underTally (narrow .countMax) (ownTally 1 z i) (tallyOf (narrow .countMax) found)
       ≡ tallyOf (narrow .countMax) (found .0, timesSol (some (mine cs C z)) (found .1))
   under-is =
       ap (λ (o : Tally). underTally (narrow .countMax) o (tallyOf (narrow .countMax) found)) own-encoded
-      ∙ tally-under (narrow .countMax) one-limit (some (mine cs C z)) found (le-refl 1) (counted-of-good cs C C 2 (found .1) found-bounds)
+      ∙ tally-under (narrow .countMax) one-limit (some (mine cs C z)) found (le-refl 1) (keeps-counted cs C 2 C (found .1) found-bounds)
       (own-clear (found .1) found-bounds)
       ∙ ap (λ (n : ℕ). tallyOf (narrow .countMax) (n, timesSol (some (mine cs C z)) (found .1))) (one-mul (found .0))
 
@@ -304,20 +288,20 @@ module _ (k : Columns) (starts : List ℕ) (z : ℤ) (i d : ℕ) (R : Ready k st
   high-fits : (S : Fam) → marksIn cs S / wordValues < wordValues
   high-fits S = shr-lt 64 64 (lt-of-lt-of-le (marks-lt cs S) (pow-mono (R .sound .short)))
 
-  members-fit : (v : Option Sol) → GoodSol cs C C 2 v
+  members-fit : (v : Option Sol) → Keeps cs C 2 C v
       → (ownTally 1 z i .low + tallyWith (narrow .countMax) (found .0) v .low < wordValues)
       × (ownTally 1 z i .high + tallyWith (narrow .countMax) (found .0) v .high < wordValues)
   members-fit none g =
       words-alone (lowMark i) (highMark i) (markIn cs C) own-low own-high (high-fits (one C))
   members-fit (some x) g =
-      let e = marks-join cs (one C) (g .family) (own-disj cs C 2 x g) ∙ ap (λ (m : ℕ). markIn cs C + m) (sym (g .marks)) in
+      let e = marks-join cs (one C) (g .members) (own-disj cs C 2 x g) ∙ ap (λ (m : ℕ). markIn cs C + m) (sym (g .coded)) in
       words-join (lowMark i) (highMark i) (markIn cs C) own-low own-high (x .1 .1) (own-clear (some x) g)
-      (subst (λ (m : ℕ). m / wordValues < wordValues) e (high-fits (join (one C) (g .family))))
+      (subst (λ (m : ℕ). m / wordValues < wordValues) e (high-fits (join (one C) (g .members))))
 
-  best-fits : (v : Option Sol) → GoodSol cs C C 2 v → SFits w64 (z +ℤ tallyWith (narrow .countMax) (found .0) v .best)
+  best-fits : (v : Option Sol) → Keeps cs C 2 C v → SFits w64 (z +ℤ tallyWith (narrow .countMax) (found .0) v .best)
   best-fits v g = record { sfits = within v g }
     where
-      within : (v : Option Sol) → GoodSol cs C C 2 v → mag (z +ℤ tallyWith (narrow .countMax) (found .0) v .best) < 2 ^ 63
+      within : (v : Option Sol) → Keeps cs C 2 C v → mag (z +ℤ tallyWith (narrow .countMax) (found .0) v .best) < 2 ^ 63
       within none g = omega (arith, mag-le-abs (z +ℤ pos 0), abs-sum-le z (pos 0), R .light)
       within (some x) g =
           omega (arith, mag-le-abs (z +ℤ x .1 .0), abs-sum-le z (x .1 .0), R .light, g .light, ones-le 64 C (R .small))
@@ -378,7 +362,8 @@ module _ (k : Columns) (starts : List ℕ) (z : ℤ) (i d : ℕ) (R : Ready k st
       reach (no n) =
           let below = R .begins .each (suc (highest C′)) (highest-small C′ (R .some) (R .small)) in
           let j = getD starts (suc (highest C′)) 0 in
-          absurd (omega (arith, below .more j (omega arith) (omega (arith, R .place)), R .rising .up j i (omega arith) (R .place), highest-gt C′ (R .some)))
+          let above = below .more j (omega arith) (omega (arith, R .place)) in
+          absurd (omega (arith, above, R .rising .up j i (omega arith) (R .place), highest-gt C′ (R .some)))
 
   abbrev worked : Bool → Bool → Tally
   worked s b =
@@ -426,5 +411,5 @@ module _ (k : Columns) (starts : List ℕ) (z : ℤ) (i d : ℕ) (R : Ready k st
       v : Option Sol
       v = found k starts z i d R .1
 
-      g : GoodSol (clustersDown (k .clusters) (R .rows)) (getD (k .clusters) i 0) (getD (k .clusters) i 0) 2 (found k starts z i d R .1)
+      g : Keeps (clustersDown (k .clusters) (R .rows)) (getD (k .clusters) i 0) 2 (getD (k .clusters) i 0) (found k starts z i d R .1)
       g = found-bounds k starts z i d R

@@ -2,8 +2,9 @@
 --     isZero→, nothing→, →nothing, blank-is, isBlank→, ranged-is     tests of a row
 --     Ranged, ranged→, →ranged     the ranges of a row's results
 --     Told, told→, →told           what the count says of marks and best weight
---     FitRow, fitEntry-is, fit→, →fit     a fit row
---     cluster-pos                  a cluster that keeps the record rules has a taxon
+--     recordIn, rules→, →rules     what was listed of a row keeps the record rules
+--     cluster-pos                  a cluster that keeps them has a taxon
+--     FitRow, fitEntry-is, fit→, →fit, fit-rules     a fit row
 --     everyEntry→, →everyEntry, blankFrom→, →blankFrom, fitEntries-is, isRising→, →isRising     all rows, by row number
 --     FitTable, fitTable-is, isFit→, →isFit     a fit table
 -- Assumes nothing.
@@ -29,7 +30,8 @@ use Rattle.trees.specs.Rows.{Row, Entry, cl, isScored}
 use Rattle.trees.specs.Result.{Result, blank}
 use Rattle.table.specs.declared.table.Table.{Table}
 use Rattle.table.specs.View.{rowCap, entryAt, entriesOf}
-use Rattle.table.specs.Fit.{isZero, isBlank, isEmpty, everyMarked, isMarkedIn, keepsRules, isRanged, isTold, fitEntry, fitEntries, blankFrom, isFit}
+use Rattle.table.specs.Fit.{isZero, isBlank, isEmpty, everyMarked, isMarkedIn}
+use Rattle.table.specs.Fit.{keepsRules, isRanged, isTold, fitEntry, fitEntries, blankFrom, isFit}
 use Rattle.table.specs.Fitness.{isNothing, isLength, isMark, isLight, isRising}
 
 -- ---- a fit row, test by test
@@ -173,35 +175,43 @@ module _ (cs : List ℕ) (r : Row) (v : Result) where
       go : Dec (v .count ≡ 0) → T (cond (eqb (v .count) 0) (isNothing v) (ownTest && innerTest && lightTest))
       go (yes e) = let q = f .none e in rw (eq-eqb _ _ e) (→nothing v (q .0) (q .1) (q .2))
       go (no n) =
-          rw (ne-eqb _ _ n) (and-T (ownTest && innerTest) lightTest (and-T ownTest innerTest (f .own n) (f .inner n)) (le→leb _ _ (f .light n)))
+          rw (ne-eqb _ _ n)
+          (and-T (ownTest && innerTest) lightTest (and-T ownTest innerTest (f .own n) (f .inner n)) (le→leb _ _ (f .light n)))
 
-pub cluster-pos : (W : Width) (r : Row) → T (keepsRules W r) → 0 < r .cluster
-cluster-pos W r h =
-    let k = kept→keeps (recordIn r) false (T-and (ltb (r .cluster) (2 ^ W .taxa)) _ h .1) in
-    pos-of-ne-zero (k .has-taxon)
+module _ (W : Width) (r : Row) where
+  pub rules→ : T (keepsRules W r) → (r .cluster < 2 ^ W .taxa) × Keeps (recordIn r) false
+  rules→ h =
+      let q = T-and (ltb (r .cluster) (2 ^ W .taxa)) _ h in
+      (ltb→lt _ _ (q .0), kept→keeps (recordIn r) false (q .1))
+
+  pub →rules : r .cluster < 2 ^ W .taxa → Keeps (recordIn r) false → T (keepsRules W r)
+  →rules l k = and-T (ltb (r .cluster) (2 ^ W .taxa)) _ (lt→ltb _ _ l) (keeps→kept (recordIn r) false k)
+
+  pub cluster-pos : T (keepsRules W r) → 0 < r .cluster
+  cluster-pos h = pos-of-ne-zero (rules→ h .1 .has-taxon)
 
 module _ (W : Width) (cs : List ℕ) (e : Entry Result) where
   pub fitEntry-is : fitEntry W cs e ≡ (keepsRules W (e .row) && (isRanged W (e .row) (e .val) && isTold cs (e .row) (e .val)))
   fitEntry-is = and-assoc (keepsRules W (e .row)) _ _
 
+  pub fit-rules : T (fitEntry W cs e) → T (keepsRules W (e .row))
+  fit-rules h = T-and (keepsRules W (e .row)) _ (rw fitEntry-is at h) .0
+
   pub fit→ : T (fitEntry W cs e) → FitRow W cs (e .row) (e .val)
   fit→ h =
       let p = T-and (keepsRules W (e .row)) _ (rw fitEntry-is at h) in
-      let k = T-and (ltb (e .row .cluster) (2 ^ W .taxa)) _ (p .0) in
+      let k = rules→ W (e .row) (p .0) in
       let q = T-and (isRanged W (e .row) (e .val)) (isTold cs (e .row) (e .val)) (p .1) in record {
-        width = ltb→lt _ _ (k .0);
-        rules = kept→keeps (recordIn (e .row)) false (k .1);
+        width = k .0;
+        rules = k .1;
         ranged = ranged→ W (e .row) (e .val) (q .0);
         told = told→ cs (e .row) (e .val) (q .1);
       }
 
   pub →fit : FitRow W cs (e .row) (e .val) → T (fitEntry W cs e)
   →fit f =
-      rw fitEntry-is (and-T (keepsRules W (e .row)) _ rules-in
+      rw fitEntry-is (and-T (keepsRules W (e .row)) _ (→rules W (e .row) (f .width) (f .rules))
       (and-T (isRanged W (e .row) (e .val)) _ (→ranged W (e .row) (e .val) (f .ranged)) (→told cs (e .row) (e .val) (f .told))))
-    where
-      rules-in : T (keepsRules W (e .row))
-      rules-in = and-T (ltb (e .row .cluster) (2 ^ W .taxa)) _ (lt→ltb _ _ (f .width)) (keeps→kept (recordIn (e .row)) false (f .rules))
 
 -- ---- all rows
 module _ (t : Table) where
