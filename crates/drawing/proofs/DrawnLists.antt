@@ -1,6 +1,5 @@
 -- What is drawn of the built table of an accepted list (document 01, demand 2): by the first heaviest of the trees of the list's records.
---     accepted-rows          the rows of an accepted list are accepted, so that all of `DrawnTables.antt` holds of its table
---     build-is               the built table of the list is that of its rows
+--     build-is               the built table of the list is that of its rows, of which all of `DrawnTables.antt` holds
 --     build-refused-iff      7 is sent back exactly where the list has no tree
 --     build-drawn-iff        and a tree is drawn exactly where it has one
 --     build-drawTree, build-drawText     the list of clusters and the text, in any room
@@ -10,20 +9,16 @@ use mathlib.Core.Logic.{_≢_, _↔_}
 use mathlib.Core.Option.{none, some}
 use mathlib.Core.List.{List, []}
 use Prim.Native.Nat.{ℕ, _<_}
-use native.Mathlib.Omega.{arith}
 use lib.ListN.{getD}
 use Rattle.cluster.specs.declared.refusal.Refusal.the-variants.{NoTree}
 use Rattle.cluster.specs.Bytes.{byteValues}
 use Rattle.trees.specs.Rows.{Row}
 use Rattle.trees.specs.Heaviest.{firstHeaviest}
 use Rattle.table.specs.declared.table.Table.{Table}
-use Rattle.table.specs.Listing.{recordsIn, rowsOf}
-use Rattle.table.specs.Build.{Making, buildTable}
-use Rattle.table.proofs.Acceptance.{accepts-iff, accepted-facts}
-use Rattle.table.proofs.FitTables as fit
-use Rattle.table.proofs.Laws.Accepted.{Accepted, keeps→test}
-use Rattle.table.proofs.Laws.Build.{build-of}
-use Rattle.table.proofs.Laws.Listing.{rows-length, row-rules}
+use Rattle.table.specs.Listing.{rowsOf}
+use Rattle.table.specs.Build.{buildTable}
+use Rattle.table.proofs.Acceptance.{accepted-rows, built-table}
+use Rattle.table.proofs.Laws.Accepted.{Accepted}
 use Rattle.drawing.specs.Draw.{drawRefusal, drawTree, drawText}
 use Rattle.drawing.specs.Drawn.{ascending, textOf}
 use Rattle.drawing.proofs.LeafRow.{builtFrom, leaves, treesOf}
@@ -33,38 +28,26 @@ module _ (l : List ℕ) (d : ℕ) (byte : (i : ℕ) → getD l i 0 < byteValues)
   abbrev rs : List Row
   rs = rowsOf l
 
-  pub accepted-rows : fit.Accepted d (rowsOf l)
-  accepted-rows =
-      let n = rows-length l (recordsIn l) in
-      record {
-        low = a .whole .takes .low;
-        high = a .whole .takes .high;
-        some = omega (arith, n, a .whole .filled, a .whole .uncut);
-        capped = omega (arith, n, a .whole .short);
-        facts = accepted-facts l d byte a;
-        rules = row-rules l byte (recordsIn l) (λ i h. keeps→test l i (a .kept i h));
-      }
-
   pub build-is : buildTable l d .table ≡ builtFrom d (rowsOf l)
-  build-is = ap (λ (m : Making). m .table) (build-of l d (accepts-iff l d .1 a))
+  build-is = built-table l d a
 
   refusal-is : drawRefusal (buildTable l d .table) ≡ drawRefusal (builtFrom d rs)
   refusal-is = ap drawRefusal build-is
 
   pub build-refused-iff : (drawRefusal (buildTable l d .table) ≡ some NoTree) ↔ (treesOf d (rowsOf l) ≡ [])
   build-refused-iff =
-      let q = refused-iff d rs accepted-rows in
+      let q = refused-iff d rs (accepted-rows l d byte a) in
       (λ e. q .0 (sym refusal-is ∙ e), λ e. refusal-is ∙ q .1 e)
 
   pub build-drawn-iff : (drawRefusal (buildTable l d .table) ≡ none) ↔ (treesOf d (rowsOf l) ≢ [])
   build-drawn-iff =
-      let q = drawn-iff d rs accepted-rows in
+      let q = drawn-iff d rs (accepted-rows l d byte a) in
       (λ e. q .0 (sym refusal-is ∙ e), λ n. refusal-is ∙ q .1 n)
 
   module _ (room : List ℕ) where
     pub build-drawTree : drawTree (buildTable l d .table) room ≡ treeDrawn (firstHeaviest (rowsOf l) (treesOf d (rowsOf l))) ascending room
-    build-drawTree = ap (λ (t : Table). drawTree t room) build-is ∙ drawTree-built d rs accepted-rows room
+    build-drawTree = ap (λ (t : Table). drawTree t room) build-is ∙ drawTree-built d rs (accepted-rows l d byte a) room
 
     pub build-drawText : drawText (buildTable l d .table) room
         ≡ treeDrawn (firstHeaviest (rowsOf l) (treesOf d (rowsOf l))) (λ (xs : List ℕ). textOf xs (leaves (rowsOf l))) room
-    build-drawText = ap (λ (t : Table). drawText t room) build-is ∙ drawText-built d rs accepted-rows room
+    build-drawText = ap (λ (t : Table). drawText t room) build-is ∙ drawText-built d rs (accepted-rows l d byte a) room

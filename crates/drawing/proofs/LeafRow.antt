@@ -39,11 +39,12 @@ use Rattle.table.specs.declared.table.Table.{Table}
 use Rattle.table.specs.View.{rowCap, resultAt, entryAt, entriesOf, tableOf}
 use Rattle.table.specs.Rows.{shownRows, unionTo, leafSet}
 use Rattle.table.specs.Searched.{clustersDown, Rising}
-use Rattle.table.proofs.AgainLoop.{mem-entries}
 use Rattle.table.proofs.FitTables.{Accepted, built-fit}
+use Rattle.table.proofs.Laws.Column.{mem-entries}
 use Rattle.table.proofs.Laws.Fit.{isFit→}
+use Rattle.table.proofs.Laws.Marks as down
 use Rattle.table.proofs.Laws.Rows.{placeOf-first, hasRow-is, unionTo-is}
-use Rattle.table.proofs.Laws.View.{entries-clusters, entries-table, table-sized}
+use Rattle.table.proofs.Laws.View.{entries-table, table-sized}
 use Rattle.drawing.specs.Draw.{leafRow, hasTree}
 
 abbrev pub builtFrom : ℕ → List Row → Table
@@ -100,7 +101,7 @@ module _ (d : ℕ) (rs : List Row) (k : Accepted d rs) where
   rows-are = ap (map (λ (e : Entry Result). e .row)) (entries-table d (builtTable narrow d rs)) ∙ rows-built rs
 
   pub clusters-down : clustersDown (t .clusters) (t .rows) ≡ clustersOf rs
-  clusters-down = sym (entries-clusters t (t .rows)) ∙ clusters-are
+  clusters-down = sym (down.clusters-are t (t .rows)) ∙ clusters-are
 
   pub rising : Rising (t .clusters) (t .rows)
   rising = record {

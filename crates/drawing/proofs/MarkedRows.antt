@@ -35,7 +35,7 @@ pub marks-tell : (cs : List ℕ) (n : ℕ) (p : ℕ → Bool) → Rising cs n �
 marks-tell cs n p up i h =
     let l = clustersDown cs n in
     let m = marksIn l p in
-    let coded = marksOf-marked l m (falling-clustersDown cs n up) (marks-lt l p) in
+    let coded = marksOf-marked l m (falling-clustersDown cs n (up .up)) (marks-lt l p) in
     sym (marks-inj l p (isMarkedIn l m) coded (getD cs i 0) (mem-clustersDown cs n i h) ∙ isMarkedIn-is cs n m i up h)
 
 module _ (m : ℕ) (p : ℕ → Bool) where

@@ -3,34 +3,26 @@
 --     examples-right      every case of the table is right
 -- Assumes nothing.
 use mathlib.Core.Path.{_≡_, refl, sym, ap, _∙_, subst}
-use mathlib.Core.Bool.{false, not, _&&_}
+use mathlib.Core.Bool.{_&&_}
 use mathlib.Core.Option.{none}
 use mathlib.Core.List.{List, List·Memᴰ as Mem}
 use Prim.Native.Nat.{ℕ, _<_}
-use native.Mathlib.Omega.{arith}
 use lib.Dec.{T}
 use lib.ListN.{getD}
-use Rattle.laws.specs.Limits.{narrow}
 use Rattle.laws.specs.Lists.{every}
 use Rattle.laws.proofs.Keep.{every→}
-use Rattle.laws.proofs.Tests.{T-and, T-true, true-T}
+use Rattle.laws.proofs.Tests.{T-and, true-T}
 use Rattle.cluster.specs.Bytes.{byteValues}
-use Rattle.cluster.specs.Record.{recordOf, hasSpare}
-use Rattle.cluster.specs.Rule.{isKept}
-use Rattle.cluster.specs.Reading.{ruleOf}
-use Rattle.cluster.proofs.Laws.Rule.{keeps→kept}
-use Rattle.trees.specs.Built.{builtTable}
 use Rattle.table.specs.declared.table.Table.{Table}
 use Rattle.table.specs.View.{tableOf}
 use Rattle.table.specs.Fit.{isFit}
-use Rattle.table.specs.Listing.{recordsIn, bytesAt, rowsOf}
+use Rattle.table.specs.Listing.{rowsOf}
 use Rattle.table.specs.Build.{Making, refusalOf, buildTable}
 use Rattle.table.specs.Rescore.{Changing}
-use Rattle.table.proofs.Acceptance.{accepts-iff, accepted-facts}
-use Rattle.table.proofs.FitTables.{built-fit}
+use Rattle.table.proofs.Acceptance.{accepts-iff, accepted-facts, built-table}
 use Rattle.table.proofs.Laws.Accepted.{Accepted}
 use Rattle.table.proofs.Laws.Build.{build-of}
-use Rattle.table.proofs.Laws.Listing.{breaks, rows-length, row-rules}
+use Rattle.table.proofs.Theorems.{build-fit}
 use Rattle.examples.specs.Case.{Case}
 use Rattle.examples.specs.Cases.{cases}
 use Rattle.examples.specs.Told.{Told}
@@ -65,27 +57,8 @@ module _ (l : List ℕ) (d : ℕ) (byte : (i : ℕ) → getD l i 0 < byteValues)
   abbrev built : Table
   built = buildTable l d .table
 
-  built-is : built ≡ tableOf d (builtTable narrow d (rowsOf l))
-  built-is = ap (λ (m : Making). m .table) (build-of l d (accepts-iff l d .1 a))
-
   quick-is : tableOf d (quickRows d (rowsOf l)) ≡ built
-  quick-is = ap (tableOf d) (quick-built d (rowsOf l) (accepted-facts l d byte a)) ∙ sym built-is
-
-  kept-at : (i : ℕ) → i < recordsIn l → breaks l i ≡ false
-  kept-at i h =
-      ap not (T-true (isKept (ruleOf (bytesAt l i))) (keeps→kept (recordOf (bytesAt l i)) (hasSpare (bytesAt l i)) (a .kept i h)))
-
-  build-fit : T (isFit built)
-  build-fit =
-      let n = rows-length l (recordsIn l) in
-      subst (λ (t : Table). T (isFit t)) (sym built-is) (built-fit d (rowsOf l) (record {
-        low = a .whole .takes .low;
-        high = a .whole .takes .high;
-        some = omega (arith, n, a .whole .filled, a .whole .uncut);
-        capped = omega (arith, n, a .whole .short);
-        facts = accepted-facts l d byte a;
-        rules = row-rules l byte (recordsIn l) kept-at;
-      }))
+  quick-is = ap (tableOf d) (quick-built d (rowsOf l) (accepted-facts l d byte a)) ∙ sym (built-table l d a)
 
 -- ---- the theorems
 
@@ -107,7 +80,7 @@ module _ (c : Case) (h : T (holds c)) where
       let a = accepts-iff l (c .degree) .0 taken in
       let byte = bytes→ l (given .1) in
       let same = quick-is l (c .degree) byte a in
-      ends-of-holds c (builtOf c .table) (build-fit l (c .degree) byte a) (subst (λ (t : Table). T (holdsFrom c t)) same (parts .1))
+      ends-of-holds c (builtOf c .table) (build-fit l (c .degree) a byte) (subst (λ (t : Table). T (holdsFrom c t)) same (parts .1))
 
   pub right-of-holds : Right c
   right-of-holds = record {

@@ -4,6 +4,8 @@
 --     refuses-iff            and is refused f exactly when f is the first refusal that applies
 --     row-iff                the rows of a list are its records
 --     accepted-facts         the rows of an accepted list stand in order, and are within the width
+--     accepted-rows          and may be built
+--     built-table            the built table of the list is that of its rows
 --     Holds l m              every record of l is one of m
 --     rows-of-records        accepted lists with the same records, in whatever order, have the same rows
 --     build-of-records       and the same build
@@ -35,15 +37,13 @@ use Rattle.table.specs.Build.{Making, refusalOf, buildTable}
 use Rattle.table.proofs.Laws.Scan.{firstFrom, first-before, first-at, first-of, first-all}
 use Rattle.table.proofs.Laws.Insert.{falling-only}
 use Rattle.table.proofs.Laws.Listing.{breaks, bad-is, repeat-is}
-use Rattle.table.proofs.Laws.Listing.{rows-mem, rows-has, rows-fall, row-facts}
+use Rattle.table.proofs.Laws.Listing.{rows-mem, rows-has, rows-fall, rows-length, row-facts, row-rules}
 use Rattle.table.proofs.Laws.Refused.{refusal-low, refusal-high, refusal-empty, refusal-long, refusal-cut, refusal-whole}
-use Rattle.table.proofs.Laws.Refused.{record-bad, record-repeated, record-none}
+use Rattle.table.proofs.Laws.Refused.{none-some, record-bad, record-repeated, record-none}
 use Rattle.table.proofs.Laws.Build.{build-of}
+use Rattle.table.proofs.Laws.Build as build
 use Rattle.table.proofs.Laws.Accepted.{KeepsAt, Repeats, Takes, Whole, Accepted, Why}
 use Rattle.table.proofs.Laws.Accepted.{test→keeps, keeps→test, broken→test, test→repeats, repeats→test, new→test, test→new}
-
-none-some : {f : Refusal} → none ≡ some f → ⊥
-none-some e = let q : _≡_ {A = ℕ} 0 1 = cc in omega arith
 
 -- ---- a refusal that applies first is told
 
@@ -150,6 +150,19 @@ module _ (l : List ℕ) (d : ℕ) where
   pub accepted-facts : ((i : ℕ) → getD l i 0 < byteValues) → Accepted l d → RowFacts (narrow .taxa) (rowsOf l)
   accepted-facts byte a =
       row-facts l byte n (λ i h. keeps→test l i (a .kept i h)) (λ i h. new→test l i (a .once i h))
+
+  pub accepted-rows : ((i : ℕ) → getD l i 0 < byteValues) → Accepted l d → build.Accepted d (rowsOf l)
+  accepted-rows byte a = record {
+    low = a .whole .takes .low;
+    high = a .whole .takes .high;
+    some = omega (arith, rows-length l n, a .whole .filled, a .whole .uncut);
+    capped = omega (arith, rows-length l n, a .whole .short);
+    facts = accepted-facts byte a;
+    rules = row-rules l byte n (λ i h. keeps→test l i (a .kept i h));
+  }
+
+  pub built-table : Accepted l d → buildTable l d .table ≡ tableOf d (builtTable narrow d (rowsOf l))
+  built-table a = ap (λ (m : Making). m .table) (build-of l d (none-of-accepted a))
 
 -- ---- the order of records plays no part
 

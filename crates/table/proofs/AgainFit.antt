@@ -2,27 +2,26 @@
 --     Listed W cs t          rows that fall, keep the record rules, and are among the rows with the clusters cs
 --     again-row, again-length, again-clusters     which rows the table then has
 --     again-fit              each of them is fit
---     entries-fit→, →entries-fit     fit rows in their order, as facts
 -- Assumes nothing.
 use mathlib.Core.Path.{_≡_, refl, sym, ap, _∙_, subst}
 use mathlib.Core.Logic.{_⊎_, inl, inr, _≢_}
-use mathlib.Core.Bool.{Bool, true, false, _&&_}
+use mathlib.Core.Bool.{Bool, true, false}
 use mathlib.Core.List.{List, [], _∷_, map, Memᴰ·map}
 use mathlib.Core.List.{List·Memᴰ as Mem, List·Memᴰ·head as here, List·Memᴰ·tail as there, List·Memᴰ·not-nil as mem-nil}
 use Prim.Native.Nat.{ℕ, suc, _-_, _≤_, _<_}
 use native.Mathlib.Nat.{le-refl, le-trans}
 use native.Mathlib.Omega.{arith}
-use lib.Dec.{T, ltb→lt, lt→ltb}
+use lib.Dec.{T}
 use lib.ListN.{length}
 use Rattle.laws.specs.Cluster.{inside}
 use Rattle.laws.specs.Limits.{Width}
 use Rattle.laws.proofs.Choose.{few, few-mono}
 use Rattle.laws.proofs.Falling.{Falling}
-use Rattle.laws.proofs.Tests.{T-and, and-T, T-dec, T-true, T-false}
+use Rattle.laws.proofs.Tests.{T-dec, T-true, T-false}
 use Rattle.trees.specs.Rows.{Row, Entry, cl}
 use Rattle.trees.specs.Result.{Result}
 use Rattle.trees.specs.Rescored.{workedOut, againIf, again}
-use Rattle.table.specs.Fit.{keepsRules, fitEntry, isAbove, fitEntries}
+use Rattle.table.specs.Fit.{keepsRules, fitEntry}
 use Rattle.table.proofs.Decoded.{good-of-fit}
 use Rattle.table.proofs.KeepsFit.{Over, worked-fit}
 use Rattle.table.proofs.Laws.Fit.{rules→}
@@ -117,38 +116,3 @@ module _ (W : Width) (one-limit : 1 ≤ W .countMax) (d c : ℕ) (cs : List ℕ)
       let top : few (length t) (d - 1) ≤ W .lengthMax = le-trans more short in
       let fewer = le-trans (few-mono (length t - 1) (length t) (d - 1) (d - 1) (omega arith) (le-refl (d - 1))) top in
       again-first e t k top (again-fit t (listed-rest W cs e t k) fewer (λ y i. f y (there i))) (f e (here refl)) x m
-
--- ---- fit rows in their order
-
-module _ (W : Width) (cs : List ℕ) where
-  above : (e : Entry Result) (t : List (Entry Result)) → Falling (map cl (e ∷ t)) → T (isAbove e t)
-  above e [] f = tt
-  above e (q ∷ t) f = lt→ltb (cl q) (cl e) (f .0 (cl q) (here refl))
-
-  pub →entries-fit : (t : List (Entry Result)) → Falling (map cl t) → ((e : Entry Result) → Mem e t → T (fitEntry W cs e)) → T (fitEntries W cs t)
-  →entries-fit [] f k = tt
-  →entries-fit (e ∷ t) f k =
-      and-T (isAbove e t && fitEntry W cs e) (fitEntries W cs t)
-      (and-T (isAbove e t) (fitEntry W cs e) (above e t f) (k e (here refl))) (→entries-fit t (f .1) (λ x m. k x (there m)))
-
-  -- the first is above all others
-  falls-first : (e : Entry Result) (t : List (Entry Result)) → T (isAbove e t) → Falling (map cl t) → Falling (map cl (e ∷ t))
-  falls-first e [] a f = (λ x m. absurd (mem-nil m), f)
-  falls-first e (q ∷ t) a f = (below, f)
-    where
-      below : (x : ℕ) → Mem x (map cl (q ∷ t)) → x < cl e
-      below x (here p) = omega (arith, ltb→lt (cl q) (cl e) a)
-      below x (there m) = omega (arith, ltb→lt (cl q) (cl e) a, f .0 x m)
-
-  pub entries-fit→ : (t : List (Entry Result)) → T (fitEntries W cs t)
-      → Falling (map cl t) × ((e : Entry Result) → Mem e t → T (fitEntry W cs e))
-  entries-fit→ [] h = (tt, λ e m. absurd (mem-nil m))
-  entries-fit→ (e ∷ t) h =
-      let a = T-and (isAbove e t && fitEntry W cs e) (fitEntries W cs t) h in
-      let b = T-and (isAbove e t) (fitEntry W cs e) (a .0) in
-      let r = entries-fit→ t (a .1) in
-      (falls-first e t (b .0) (r .0), each (b .1) (r .1))
-    where
-      each : T (fitEntry W cs e) → ((x : Entry Result) → Mem x t → T (fitEntry W cs x)) → (x : Entry Result) → Mem x (e ∷ t) → T (fitEntry W cs x)
-      each f g x (here p) = subst (λ (y : Entry Result). T (fitEntry W cs y)) (sym p) f
-      each f g x (there m) = g x m

@@ -1,6 +1,5 @@
 -- The row loop of `again` (`src/working.rt`): what holds after each row, and that it ends with every row worked out again.
 --     Partly given c t i      the first i rows of t are the given ones, worked out again; the others are as given
---     entries-mem             the first rows, place by place
 --     partly-start, partly-skip, partly-store, partly-end     how the loop begins, goes on and ends
 --     ready-row               what working out row i may count on
 -- Assumes nothing.
@@ -8,9 +7,9 @@ use mathlib.Core.Path.{_≡_, refl, sym, ap, ap₂, _∙_, subst}
 use mathlib.Core.Logic.{_≢_}
 use mathlib.Core.Bool.{Bool, true, false}
 use mathlib.Core.List.{List, _∷_}
-use mathlib.Core.List.{List·Memᴰ as Mem, List·Memᴰ·head as here, List·Memᴰ·tail as there, List·Memᴰ·not-nil as mem-nil}
-use Prim.Native.Nat.{ℕ, zero, suc, _+_, _-_, _*_, _/_, _%_, _^_, _≤_, _<_}
-use native.Mathlib.Decide.{decLt, ℕ-discrete}
+use mathlib.Core.List.{List·Memᴰ as Mem}
+use Prim.Native.Nat.{ℕ, suc, _+_, _-_, _*_, _/_, _%_, _^_, _≤_, _<_}
+use native.Mathlib.Decide.{ℕ-discrete}
 use native.Mathlib.Nat.{lt-of-lt-of-le}
 use native.Mathlib.Numerals.{add-one}
 use native.Mathlib.Omega.{arith}
@@ -32,39 +31,21 @@ use Rattle.trees.specs.Rescored.{ownMark, workedOut, againIf, again}
 use Rattle.trees.proofs.TupleBound.{few-narrow}
 use Rattle.table.specs.declared.table.Table.{Table}
 use Rattle.table.specs.declared.tally.Tally.{Tally}
-use Rattle.table.specs.View.{wordValues, rowAt, resultAt, entryAt, entriesOf, tableOf}
-use Rattle.table.specs.Fit.{keepsRules, fitEntry}
+use Rattle.table.specs.View.{wordValues, rowAt, entryAt, entriesOf, tableOf}
+use Rattle.table.specs.Fit.{isEmpty, keepsRules, fitEntry}
 use Rattle.table.specs.Searched.{columnsOf, clustersDown, rowOf, fieldsOf, Rising, Starts, GoodRow, Sound}
 use Rattle.table.specs.Tally.{fieldsTally}
 use Rattle.table.specs.Working.{workedRow, clustersOf, againTable, Ready, Sized, Workable}
 use Rattle.table.proofs.AgainFit.{again-fit, Listed}
 use Rattle.table.proofs.Bare.{bare, worked-bare, beneath-bare}
 use Rattle.table.proofs.Decoded.{good-of-fit}
-use Rattle.table.proofs.Down.{Ascends, mem-down, down-mem, down-length, down-falls, mark-down}
-use Rattle.table.proofs.Laws.Column.{entries-length}
-use Rattle.table.proofs.Laws.Fit.{recordIn, rules→}
+use Rattle.table.proofs.Laws.Column.{entries-length, entries-mem, mem-entries}
+use Rattle.table.proofs.Laws.Fit.{recordIn, rules→, cluster-pos}
+use Rattle.table.proofs.Laws.Marks.{Ascends, clusters-are, length-clustersDown, mem-clustersDown, clustersDown-mem}
+use Rattle.table.proofs.Laws.Marks.{falling-clustersDown, mark-down}
 use Rattle.table.proofs.Laws.Stored.{resultIn, stored, stored-same, stored-other, stored-entries, stored-sized}
-use Rattle.table.proofs.Laws.View.{entries-clusters, Blank, blank-past, table-is}
+use Rattle.table.proofs.Laws.View.{Blank, empty→blank, blank→empty, blank-past, table-is}
 use Rattle.table.proofs.WorkedRow.{worked-marks}
-
--- ---- the first rows, place by place
-
-pub entries-mem : (t : Table) (n : ℕ) (e : Entry Result) → Mem e (entriesOf t n) → (j : ℕ) × (j < n) × (e ≡ entryAt t j)
-entries-mem t zero e m = absurd (mem-nil m)
-entries-mem t (suc n) e (here p) = (n, omega arith, p)
-entries-mem t (suc n) e (there m) = let q = entries-mem t n e m in (q .0, omega (arith, q .1), q .2)
-
-pub mem-entries : (t : Table) (n j : ℕ) → j < n → Mem (entryAt t j) (entriesOf t n)
-mem-entries t zero j h = absurd (omega arith)
-mem-entries t (suc n) j h = go (decLt j n) (mem-entries t n j)
-  where
-    go : Dec (j < n) → (j < n → Mem (entryAt t j) (entriesOf t n)) → Mem (entryAt t j) (entriesOf t (suc n))
-    go (yes k) ih = there (ih k)
-    go (no k) ih = here (ap (entryAt t) (let e : j ≡ n = omega arith in e))
-
-positive : (n : ℕ) → n ≢ 0 → 0 < n
-positive zero f = absurd (f refl)
-positive (suc n) f = omega arith
 
 -- the fields of a row, as a tally and back
 result-back : (v : Result) → resultIn (fieldsTally v) ≡ v
@@ -147,17 +128,18 @@ module _ (given : Table) (c : ℕ) (w : Workable given c) where
 
   given-full : (x : ℕ) → Mem x cs → x ≢ 0
   given-full x m e =
-      let q = mem-down (given .clusters) (given .rows) x m in
+      let q = clustersDown-mem (given .clusters) (given .rows) x m in
       rules→ narrow (rowAt given (q .0)) (w .rules (q .0) (q .1)) .1 .has-taxon (sym (q .2) ∙ e)
 
   given-falls : (i : ℕ) → i ≤ given .rows → Falling (clustersDown (given .clusters) i)
-  given-falls i h = down-falls (given .clusters) i (λ a b p q. w .rising .up a b p (omega arith))
+  given-falls i h = falling-clustersDown (given .clusters) i (λ a b p q. w .rising .up a b p (omega arith))
 
   given-listed : (i : ℕ) → i ≤ given .rows → Listed narrow cs (entriesOf given i)
   given-listed i h = record {
-    falls = subst Falling (sym (entries-clusters given i)) (given-falls i h);
+    falls = subst Falling (sym (clusters-are given i)) (given-falls i h);
     listed = λ e m. let q = entries-mem given i e m in
-        subst (λ (x : Entry Result). Mem (cl x) cs) (sym (q .2)) (down-mem (given .clusters) (given .rows) (q .0) (omega (arith, q .1)));
+        subst (λ (x : Entry Result). Mem (cl x) cs) (sym (q .2))
+        (mem-clustersDown (given .clusters) (given .rows) (q .0) (omega (arith, q .1)));
     rules = λ e m. let q = entries-mem given i e m in
         subst (λ (x : Entry Result). T (keepsRules narrow (x .row))) (sym (q .2)) (w .rules (q .0) (omega (arith, q .1)));
   }
@@ -187,7 +169,7 @@ module _ (given : Table) (c : ℕ) (w : Workable given c) where
     ready-sound h = record {
       one = lit≤ tt;
       small = lit< tt;
-      short = omega (arith, down-length (t .clusters) (given .rows), w .capped);
+      short = omega (arith, length-clustersDown (t .clusters) (given .rows), w .capped);
       falls = clusters-same (λ (l : List ℕ). Falling (clustersDown l (given .rows))) (given-falls (given .rows) (omega arith));
       full = clusters-same (λ (l : List ℕ). (x : ℕ) → Mem x (clustersDown l (given .rows)) → x ≢ 0) given-full;
       rising = record {
@@ -195,7 +177,7 @@ module _ (given : Table) (c : ℕ) (w : Workable given c) where
         up = λ a b x y. clusters-same (λ (l : List ℕ). getD l a 0 < getD l b 0) (w .rising .up a b x (omega arith));
       };
       nonzero = λ j l. clusters-same (λ (l : List ℕ). 0 < getD l j 0)
-          (positive (getD (given .clusters) j 0) (rules→ narrow (rowAt given j) (w .rules j (omega arith)) .1 .has-taxon));
+          (cluster-pos narrow (rowAt given j) (w .rules j (omega arith)));
       good = λ j l s. clusters-same (goodAt j) (bare-good (entryAt t j) (good-of-fit narrow cs (entryAt t j) (done-fit j l)));
     }
       where
@@ -224,7 +206,7 @@ module _ (given : Table) (c : ℕ) (w : Workable given c) where
       sound = ready-sound h;
       rising = clusters-same (λ (l : List ℕ). Rising l (given .rows)) (w .rising);
       begins = clusters-same (λ (l : List ℕ). Starts l (given .rows) starts) s;
-      some = clusters-same (λ (l : List ℕ). 0 < getD l i 0) (positive (getD (given .clusters) i 0) (k .1 .has-taxon));
+      some = clusters-same (λ (l : List ℕ). 0 < getD l i 0) (cluster-pos narrow (rowAt given i) (w .rules i h));
       small = clusters-same (λ (l : List ℕ). getD l i 0 < wordValues) (lt-of-lt-of-le (k .0) (lit≤ tt));
       low = w .low;
       high = w .high;
@@ -301,20 +283,8 @@ module _ (given : Table) (c : ℕ) (w : Workable given c) where
 
     past-blank : (j : ℕ) → given .rows ≤ j → i ≤ j → Blank t j
     past-blank j h l =
-        let q = p .left j l in
         let b = blank-past given (w .sized) (w .capped) (w .blank) j h in
-        let z : resultAt t j .members ≡ 0 = ap (λ (e : Entry Result). e .val .members) q ∙ omega (arith, b .low, b .high) in
-        record {
-          cluster = ap (λ (e : Entry Result). e .row .cluster) q ∙ b .cluster;
-          weight = ap (λ (e : Entry Result). e .row .weight) q ∙ b .weight;
-          state = ap (λ (e : Entry Result). e .row .state) q ∙ b .state;
-          length = ap (λ (e : Entry Result). e .val .length) q ∙ b .length;
-          count = ap (λ (e : Entry Result). e .val .count) q ∙ b .count;
-          mark = ap (λ (e : Entry Result). e .val .mark) q ∙ b .mark;
-          best = ap (λ (e : Entry Result). e .val .best) q ∙ b .best;
-          low = omega (arith, z);
-          high = omega (arith, z);
-        }
+        empty→blank t j (subst (λ (e : Entry Result). T (isEmpty e)) (sym (p .left j l)) (blank→empty given j b))
 
     pub partly-end : given .rows ≤ i → t ≡ againTable given c
     partly-end h =

@@ -30,8 +30,6 @@ pub mod Searchable
 pub mod SearchRow
 -- the loop of the search, turn by turn
 pub mod Running
--- the clusters of the first rows
-mod Down
 -- what the rows beneath a row show to the search
 mod Bare
 -- the row that the code works out is the paper's

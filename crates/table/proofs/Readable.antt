@@ -27,7 +27,8 @@ use Rattle.trees.proofs.Search.{lookup, lookup-row, lookup-missing, search-one}
 use Rattle.table.specs.View.{wordValues}
 use Rattle.table.specs.Tally.{tallyOf, noTally, decoded}
 use Rattle.table.specs.Searched.{Columns, rowOf, fieldsOf, partAt, partTally, partsOf, sumKind, sumCovers}
-use Rattle.table.specs.Searched.{Rising, Below, Long, Sound, Readable}
+use Rattle.table.specs.Searched.{Below, Long, Sound, Readable}
+use Rattle.table.proofs.Laws.Marks.{rising-part}
 use Rattle.table.proofs.Laws.Searched.{mem-parts, parts-mem, parts-descend, sumCovers-search}
 use Rattle.table.proofs.Decoded.{decoded-keeps, fields-tally}
 use Rattle.table.proofs.Held.{Part}
@@ -42,9 +43,6 @@ one-of-scored s h = eqb→eq s 1 h
 
 -- ---- fewer rows
 
-rising-fewer : (cs : List ℕ) (m n : ℕ) → m ≤ n → Rising cs n → Rising cs m
-rising-fewer cs m n h r = record { long = omega (arith, r .long); up = λ i j l p. r .up i j l (omega arith) }
-
 module _ (limit : ℕ) (k : Columns) (m n : ℕ) (h : m ≤ n) where
   sound-fewer : (cs : List ℕ) → Sound limit k cs n → Sound limit k cs m
   sound-fewer cs s = record {
@@ -53,7 +51,7 @@ module _ (limit : ℕ) (k : Columns) (m n : ℕ) (h : m ≤ n) where
     short = s .short;
     falls = s .falls;
     full = s .full;
-    rising = rising-fewer (k .clusters) m n h (s .rising);
+    rising = rising-part (k .clusters) n m h (s .rising);
     nonzero = λ i l. s .nonzero i (omega arith);
     good = λ i l. s .good i (omega arith);
   }

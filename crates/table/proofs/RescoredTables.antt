@@ -38,6 +38,7 @@ use Rattle.table.specs.View.{rowAt, entryAt, entriesOf}
 use Rattle.table.specs.Fit.{isFit}
 use Rattle.table.specs.Rescore.{Changing, changingOf, isScore, hasRow, rescoreRefusal, newTable, changedOf, rescoreTable}
 use Rattle.table.proofs.Laws.Column.{entries-length}
+use Rattle.table.proofs.Laws.Refused.{none-some}
 use Rattle.table.proofs.Laws.View.{entries-table}
 
 -- ---- what a rescoring gives, by why it is refused
@@ -62,9 +63,6 @@ WhyBy fit row score NoRoom = ⊥
 -- f is the refusal of the rescoring: 8 (fitness only), 9, 10 in that order, and no other
 abbrev pub WhyNot : Table → ℕ → ℤ → ℕ → Refusal → Type 0
 WhyNot t c z s f = WhyBy (isFit t) (hasRow t c) (isScore z s) f
-
-none-some : {f : Refusal} → none ≡ some f → ⊥
-none-some e = let q : _≡_ {A = ℕ} 0 1 = cc in omega arith
 
 tells : (fit row score : Bool) (f : Refusal) → WhyBy fit row score f → refusedBy fit row score ≡ some f
 tells false a b Unfit w = refl

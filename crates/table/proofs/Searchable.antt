@@ -1,6 +1,5 @@
 -- What a search may count on, put to use: its rows as parts fall and keep what sums keep, and few tuples are counted.
---     highest-fits             the highest taxon of a word, as a place among the starts
---     taxon-fits               so for what is searched for
+--     taxon-fits               the highest taxon of what is searched for, as a place among the starts
 --     searched-fall            the rows, as parts, fall
 --     topOf, rows-below        a number above all rows
 --     searched-keep            the scored ones keep what sums keep
@@ -9,12 +8,10 @@
 use mathlib.Core.Path.{_≡_, subst}
 use mathlib.Core.List.{List, map, List·Memᴰ as Mem}
 use Prim.Native.Nat.{ℕ, suc, _^_, _≤_, _<_}
-use native.Mathlib.Decide.{decLt}
 use native.Mathlib.Nat.{pow-le-pow-left, pow-le-pow-right}
 use native.Mathlib.Omega.{arith}
 use lib.Dec.{T}
 use lib.ListN.{getD}
-use lib.Pow.{pow-mono}
 use Rattle.laws.specs.Cluster.{highest}
 use Rattle.laws.proofs.Descends.{Descends}
 use Rattle.laws.proofs.Taxa.{highest-le}
@@ -22,17 +19,11 @@ use Rattle.trees.specs.Rows.{Entry, cl, sc}
 use Rattle.trees.proofs.Capped.{Res}
 use Rattle.table.specs.View.{wordValues}
 use Rattle.table.specs.Searched.{Columns, partsOf, sumCovers, Past, Searchable}
+use Rattle.table.proofs.Laws.Marks.{highest-lt}
 use Rattle.table.proofs.Laws.Searched.{parts-length}
 use Rattle.table.proofs.CoverSums.{sumCovers-few}
 use Rattle.table.proofs.Held.{Part}
 use Rattle.table.proofs.Readable.{parts-fall, parts-keep}
-
-pub highest-fits : (c : ℕ) → 0 < c → c < wordValues → highest c < 64
-highest-fits c p h = go (decLt (highest c) 64)
-  where
-    go : Dec (highest c < 64) → highest c < 64
-    go (yes l) = l
-    go (no f) = absurd (omega (arith, highest-le c p, pow-mono {i = 64} {j = highest c} (omega arith)))
 
 -- above every row below the taxon after R's highest
 abbrev pub topOf : ℕ → ℕ
@@ -40,7 +31,7 @@ topOf R = 2 ^ suc (highest R)
 
 module _ (limit : ℕ) (k : Columns) (starts : List ℕ) (end R : ℕ) (s : Searchable limit k starts end R) where
   pub taxon-fits : highest R < 64
-  taxon-fits = highest-fits R (s .some) (s .small)
+  taxon-fits = highest-lt 64 R (s .some) (s .small)
 
   -- the last child isn't among the rows below the highest taxon
   pub start-past : (start : ℕ) → start ≡ getD starts (highest R) 0 → Past (k .clusters) end R start

@@ -23,24 +23,19 @@
 -- Assumes nothing.
 use mathlib.Core.Path.{_≡_, refl, sym, ap, _∙_, subst}
 use mathlib.Core.Logic.{_↔_}
-use mathlib.Core.Bool.{Bool, true, false, not, cond}
+use mathlib.Core.Bool.{Bool, true, false, cond}
 use mathlib.Core.Option.{none}
 use mathlib.Core.List.{List, [], _∷_, map}
 use mathlib.Core.List.{List·Memᴰ as Mem}
-use Prim.Native.Nat.{ℕ, _<_}
-use native.Mathlib.Omega.{arith}
+use Prim.Native.Nat.{ℕ}
 use lib.Dec.{T, lit≤}
 use lib.IntN.{ℤ}
 use Rattle.laws.specs.Limits.{narrow}
 use Rattle.laws.specs.Lists.{elem}
 use Rattle.laws.proofs.Keep.{elem→, →elem}
-use Rattle.laws.proofs.Tests.{T-true, true-T}
+use Rattle.laws.proofs.Tests.{true-T}
 use Rattle.cluster.specs.declared.refusal.Answer.the-variants.{Done}
-use Rattle.cluster.specs.Record.{recordOf, hasSpare}
 use Rattle.cluster.specs.Refusal.{sentOf}
-use Rattle.cluster.specs.Rule.{isKept}
-use Rattle.cluster.specs.Reading.{ruleOf}
-use Rattle.cluster.proofs.Laws.Rule.{keeps→kept}
 use Rattle.trees.specs.Rows.{Row, Entry, clustersOf, cl}
 use Rattle.trees.specs.Result.{Result}
 use Rattle.trees.specs.Built.{builtResult, builtTable}
@@ -49,46 +44,25 @@ use Rattle.trees.proofs.Theorems.{rescore-is-build}
 use Rattle.table.specs.declared.table.Table.{Table}
 use Rattle.table.specs.View.{tableOf}
 use Rattle.table.specs.Fit.{isFit}
-use Rattle.table.specs.Listing.{recordsIn, bytesAt, clustersTo, rowsOf}
-use Rattle.table.specs.Build.{Making, buildTable}
+use Rattle.table.specs.Listing.{recordsIn, clustersTo, rowsOf}
+use Rattle.table.specs.Build.{buildTable}
 use Rattle.table.specs.Rescore.{Changing, isScore, hasRow, rescoreRefusal, newTable, rescoreTable}
 use Rattle.table.proofs.Laws.Accepted.{Accepted}
-use Rattle.table.proofs.Acceptance.{accepts-iff, accepted-facts}
+use Rattle.table.proofs.Acceptance.{accepted-facts, accepted-rows, built-table}
 use Rattle.table.proofs.Changed.{changedBytes, changed-accepted, changed-rows}
 use Rattle.table.proofs.Changes.{HasCluster, firstPlace, isTaken, changeOne, changeAll}
 use Rattle.table.proofs.Changes.{place-cluster, taken-place, taken-iff, AcceptedBytes, change-accepted}
 use Rattle.table.proofs.FitTables.{built-fit}
 use Rattle.table.proofs.RescoredTables.{rescore-of, rescore-accepts-iff, rescore-refused}
 use Rattle.table.proofs.Rewritten.{Bytes}
-use Rattle.table.proofs.Laws.Build.{build-of}
-use Rattle.table.proofs.Laws.Listing.{breaks, rows-length, clusters-mem, clusters-has, elem-rows, row-rules}
+use Rattle.table.proofs.Laws.Build.{clusters-of-rows}
+use Rattle.table.proofs.Laws.Listing.{clusters-mem, clusters-has, elem-rows}
 use Rattle.table.proofs.Laws.View.{entries-table}
 
 -- ---- the build of an accepted list
 
-module _ (val : Row → Result) where
-  entries-of-rows : (rs : List Row) → map cl (map (λ (r : Row). record { row = r; val = val r }) rs) ≡ clustersOf rs
-  entries-of-rows [] = refl
-  entries-of-rows (r ∷ rs) = ap (λ (cs : List ℕ). r .cluster ∷ cs) (entries-of-rows rs)
-
-module _ (l : List ℕ) (d : ℕ) (a : Accepted l d) where
-  built-table : buildTable l d .table ≡ tableOf d (builtTable narrow d (rowsOf l))
-  built-table = ap (λ (m : Making). m .table) (build-of l d (accepts-iff l d .1 a))
-
-  kept-at : (i : ℕ) → i < recordsIn l → breaks l i ≡ false
-  kept-at i h = ap not (T-true (isKept (ruleOf (bytesAt l i))) (keeps→kept (recordOf (bytesAt l i)) (hasSpare (bytesAt l i)) (a .kept i h)))
-
-  pub build-fit : Bytes l → T (isFit (buildTable l d .table))
-  build-fit byte =
-      let n = rows-length l (recordsIn l) in
-      subst (λ (t : Table). T (isFit t)) (sym built-table) (built-fit d (rowsOf l) (record {
-        low = a .whole .takes .low;
-        high = a .whole .takes .high;
-        some = omega (arith, n, a .whole .filled, a .whole .uncut);
-        capped = omega (arith, n, a .whole .short);
-        facts = accepted-facts l d byte a;
-        rules = row-rules l byte (recordsIn l) kept-at;
-      }))
+pub build-fit : (l : List ℕ) (d : ℕ) → Accepted l d → Bytes l → T (isFit (buildTable l d .table))
+build-fit l d a byte = rw (built-table l d a) (built-fit d (rowsOf l) (accepted-rows l d byte a))
 
 -- ---- demand 3: rescoring a built table
 
@@ -102,7 +76,7 @@ module _ (l : List ℕ) (d : ℕ) (byte : Bytes l) (a : Accepted l d) where
   rows = rowsOf l
 
   clusters-are : map cl (builtTable narrow d rows) ≡ clustersOf rows
-  clusters-are = entries-of-rows (λ (r : Row). builtResult narrow d rows r) rows
+  clusters-are = clusters-of-rows (λ (r : Row). builtResult narrow d rows r) rows
 
   has-row-is : (c : ℕ) → hasRow (buildTable l d .table) c ≡ elem c (clustersTo l (recordsIn l))
   has-row-is c =

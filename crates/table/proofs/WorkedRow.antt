@@ -50,10 +50,10 @@ use Rattle.table.specs.Searched.{sumKind, sumCovers, partsOf}
 use Rattle.table.specs.Tally.{tallyWith, tallyOf, fieldsTally, noTally, lowMark, highMark, ownTally, underTally, decoded}
 use Rattle.table.specs.Working.{beneathOf, rowWith, workedRow, Ready}
 use Rattle.table.proofs.Decoded.{tally-encode}
-use Rattle.table.proofs.Down.{down-mem, mark-down}
 use Rattle.table.proofs.Encoded.{Clear, tally-under}
 use Rattle.table.proofs.Held.{Keeps, keeps-counted, sum-count}
 use Rattle.table.proofs.KeepsFit.{decode, Over, beneath, worked-is, found-keeps}
+use Rattle.table.proofs.Laws.Marks.{mem-clustersDown, mark-down, highest-lt}
 use Rattle.table.proofs.Laws.Searched.{below-le, mem-parts}
 use Rattle.table.proofs.Laws.Working.{low-mark-is, high-mark-is}
 use Rattle.table.proofs.Rooted.{mine, own-disj}
@@ -142,7 +142,7 @@ module _ (k : Columns) (starts : List ℕ) (z : ℤ) (i d : ℕ) (R : Ready k st
   ready-over = record {
     falls = R .sound .falls;
     full = R .sound .full;
-    listed = down-mem (k .clusters) (R .rows) i (R .place);
+    listed = mem-clustersDown (k .clusters) (R .rows) i (R .place);
     light = R .light;
     nonzero = λ e m. let q = beneath-mem k i e m in λ n. omega (arith, ap cl (q .2), n, R .sound .nonzero (q .0) (q .1));
     less = λ e m. let q = beneath-mem k i e m in omega (arith, ap cl (q .2), R .rising .up (q .0) i (q .1) (R .place));
@@ -316,13 +316,6 @@ unscored-of : (s : ℕ) → s ≢ 1 → scored s ≡ false
 unfolding scored
 unscored-of s n = ne-eqb s 1 n
 
-highest-small : (c : ℕ) → 0 < c → c < wordValues → suc (highest c) ≤ 64
-highest-small c h l = go (decLe (suc (highest c)) 64)
-  where
-    go : Dec (suc (highest c) ≤ 64) → suc (highest c) ≤ 64
-    go (yes k) = k
-    go (no k) = let up = pow-mono {i = 64} {j = highest c} (omega arith) in absurd (omega (arith, highest-le c h))
-
 -- ---- how the code ends
 
 module _ (k : Columns) (starts : List ℕ) (z : ℤ) (i d : ℕ) (R : Ready k starts z i d) where
@@ -338,7 +331,7 @@ module _ (k : Columns) (starts : List ℕ) (z : ℤ) (i d : ℕ) (R : Ready k st
     small = R .small;
     run =
         below-le (k .clusters) (R .rows) _ _ i
-        (R .begins .each (highest C′) (omega (arith, highest-small C′ (R .some) (R .small)))) (highest-le C′ (R .some));
+        (R .begins .each (highest C′) (omega (arith, highest-lt 64 C′ (R .some) (R .small)))) (highest-le C′ (R .some));
     reach = reach (decLe i (getD starts (suc (highest C′)) 0));
   }
     where
@@ -360,7 +353,7 @@ module _ (k : Columns) (starts : List ℕ) (z : ℤ) (i d : ℕ) (R : Ready k st
       reach : Dec (i ≤ getD starts (suc (highest C′)) 0) → i ≤ getD starts (suc (highest C′)) 0
       reach (yes h) = h
       reach (no n) =
-          let below = R .begins .each (suc (highest C′)) (highest-small C′ (R .some) (R .small)) in
+          let below = R .begins .each (suc (highest C′)) (highest-lt 64 C′ (R .some) (R .small)) in
           let j = getD starts (suc (highest C′)) 0 in
           let above = below .more j (omega arith) (omega (arith, R .place)) in
           absurd (omega (arith, above, R .rising .up j i (omega arith) (R .place), highest-gt C′ (R .some)))

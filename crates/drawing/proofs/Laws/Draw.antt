@@ -29,7 +29,7 @@ use Rattle.table.specs.declared.table.Table.{Table}
 use Rattle.table.specs.View.{rowCap, resultAt}
 use Rattle.table.specs.Fit.{isFit}
 use Rattle.table.specs.Rows.{shownRows, leafSet}
-use Rattle.table.proofs.FitTables.{FitTable, is-fit→}
+use Rattle.table.proofs.Laws.Fit.{FitTable, isFit→}
 use Rattle.drawing.specs.declared.marks.Members.{Members}
 use Rattle.drawing.specs.Marked.{membersTo, scoredTo, weightTo}
 use Rattle.drawing.specs.Draw.{leafRow, hasTree, leafMarks, membersOf, isSame, areScored, weighsBest, isDrawable, drawRefusal}
@@ -43,7 +43,7 @@ word z = toZ w64 (ofZ w64 z)
 -- ---- a fit table
 module _ (t : Table) (fit : isFit t ≡ true) where
   facts : FitTable t
-  facts = is-fit→ t (true-T fit)
+  facts = isFit→ t (true-T fit)
 
   pub rows-capped : t .rows ≤ rowCap
   rows-capped = facts .capped

@@ -1,7 +1,9 @@
 -- Building: what is given in each case, and that working out the arranged rows of an accepted list is the build.
 --     build-of                what is given, by why the list is refused
 --     build-only              two outcomes that the promise of a build allows are equal
---     Rows rs                 what holds of the rows of an accepted list
+--     Accepted d rs           what holds of the rows of an accepted list
+--     clusters-of-rows, unworked-clusters     the clusters of rows, beside any results and beside none
+--     again-all, again-built  working every row out again makes the table anew, which is the built one
 --     workable, again-is      they may be worked out, and so worked out they are the built table
 --     InOrder l n s o         the records of l are read and in order
 --     made-bad, made-repeated, made-within, made-workable, made-accepted     refusals 5 and 6, and a success
@@ -10,16 +12,14 @@ use mathlib.Core.Path.{_≡_, refl, sym, ap, ap₂, _∙_, subst}
 use mathlib.Core.Bool.{Bool, false}
 use mathlib.Core.Option.{Option, none}
 use mathlib.Core.List.{List, [], _∷_, map, Memᴰ·of-map}
-use mathlib.Core.List.{List·Memᴰ as Mem, List·Memᴰ·head as here, List·Memᴰ·tail as there}
-use Prim.Native.Nat.{ℕ, zero, suc, _-_, _/_, _≤_, _<_}
-use native.Mathlib.Decide.{decLe}
+use mathlib.Core.List.{List·Memᴰ as Mem}
+use Prim.Native.Nat.{ℕ, _-_, _/_, _≤_, _<_}
 use native.Mathlib.Omega.{arith}
 use lib.Dec.{T}
 use lib.ListN.{length, getD, length-map}
 use Rattle.laws.specs.Cluster.{inside}
 use Rattle.laws.specs.Limits.{narrow, degreeLow, degreeHigh}
 use Rattle.laws.proofs.Cluster.{zero-inside}
-use Rattle.laws.proofs.Falling.{Falling}
 use Rattle.laws.proofs.Tests.{T-true}
 use Rattle.cluster.specs.declared.refusal.Answer.{Answer}
 use Rattle.cluster.specs.declared.refusal.Answer.the-variants.{Done}
@@ -40,18 +40,20 @@ use Rattle.table.specs.declared.listing.Listed.{Listed}
 use Rattle.table.specs.declared.listing.Order.{Order}
 use Rattle.table.specs.declared.making.Built.{Built}
 use Rattle.table.specs.declared.table.Table.{Table}
-use Rattle.table.specs.View.{rowCap, rowAt, entryAt, entriesOf, tableOf}
+use Rattle.table.specs.View.{rowCap, rowAt, entryAt, tableOf}
 use Rattle.table.specs.Fit.{keepsRules}
 use Rattle.table.specs.Listing.{rowIn, badFrom, repeats, repeatFrom, rowsTo, rowsOf, recordRefusal}
 use Rattle.table.specs.Searched.{clustersDown, Rising}
 use Rattle.table.specs.Working.{againTable, Workable}
-use Rattle.table.specs.Arranged.{rowFrom, ReadTo, through, HasClusters, Ordered, Within, unworked, arrangedTable, Makeable}
+use Rattle.table.specs.Arranged.{rowFrom, ReadTo, HasClusters, Ordered, Within, unworked, arrangedTable, Makeable}
 use Rattle.table.specs.Build.{Making, makingOf, refusalOf, refusedBuild, madeOf, buildTable}
 use Rattle.table.proofs.Laws.Scan.{first-before, first-high}
 use Rattle.table.proofs.Laws.Listing.{breaks, bad-is, repeat-is, rows-length, row-rules, row-facts}
 use Rattle.table.proofs.Laws.Refused.{record-bad, record-repeated, record-none}
-use Rattle.table.proofs.Laws.Through.{through-ext, falling-at, down-through}
-use Rattle.table.proofs.Laws.View.{entries-clusters, entries-table, table-sized, table-blank}
+use Rattle.table.proofs.Laws.Column.{mem-entries}
+use Rattle.table.proofs.Laws.Marks.{clusters-are, falling-ascends}
+use Rattle.table.proofs.Laws.Through.{through-ext}
+use Rattle.table.proofs.Laws.View.{entries-table, table-sized, table-blank}
 
 -- ---- refused or built
 
@@ -68,23 +70,21 @@ build-only l d x y p q =
 
 -- ---- the rows of an accepted list are worked out
 
-pub record Rows (rs : List Row) : Type 0 where
+pub record Accepted (d : ℕ) (rs : List Row) : Type 0 where
+  pub low : degreeLow ≤ d
+  pub high : d ≤ degreeHigh
   pub some : 1 ≤ length rs
-  pub room : length rs ≤ rowCap
+  pub capped : length rs ≤ rowCap
   pub facts : RowFacts (narrow .taxa) rs
   pub rules : (r : Row) → Mem r rs → T (keepsRules narrow r)
 
-entries-mem : (t : Table) (n i : ℕ) → i < n → Mem (entryAt t i) (entriesOf t n)
-entries-mem t zero i h = absurd (omega arith)
-entries-mem t (suc n) i h = go (decLe n i) (entries-mem t n i)
-  where
-    go : Dec (n ≤ i) → (i < n → Mem (entryAt t i) (entriesOf t n)) → Mem (entryAt t i) (entriesOf t (suc n))
-    go (yes k) ih = here (let e : i ≡ n = omega arith in ap (entryAt t) e)
-    go (no k) ih = there (ih (omega arith))
+module _ (val : Row → Result) where
+  pub clusters-of-rows : (rs : List Row) → map cl (map (λ (r : Row). record { row = r; val = val r }) rs) ≡ clustersOf rs
+  clusters-of-rows [] = refl
+  clusters-of-rows (r ∷ rs) = ap (λ (cs : List ℕ). r .cluster ∷ cs) (clusters-of-rows rs)
 
-map-clusters : (rs : List Row) → map cl (map unworked rs) ≡ clustersOf rs
-map-clusters [] = refl
-map-clusters (r ∷ rs) = ap (λ (cs : List ℕ). r .cluster ∷ cs) (map-clusters rs)
+pub unworked-clusters : (rs : List Row) → map cl (map unworked rs) ≡ clustersOf rs
+unworked-clusters = clusters-of-rows (λ (r : Row). blank)
 
 -- the empty cluster is inside every other
 again-all : (F : Row → List (Entry Result) → Result) (rs : List Row) → again F 0 (map unworked rs) ≡ workedFrom F rs
@@ -93,7 +93,15 @@ again-all F (r ∷ rs) =
     ap (λ (b : Bool). againIf F b (unworked r) (again F 0 (map unworked rs))) (T-true (inside 0 (r .cluster)) (zero-inside (r .cluster)))
     ∙ ap (λ (t : List (Entry Result)). record { row = r; val = F r t } ∷ t) (again-all F rs)
 
-module _ (d : ℕ) (rs : List Row) (k : Rows rs) where
+-- every row worked out from rows with no results
+pub again-built : (d : ℕ) (rs : List Row) → RowFacts (narrow .taxa) rs
+    → again (workedOut narrow d (map cl (map unworked rs))) 0 (map unworked rs) ≡ builtTable narrow d rs
+again-built d rs facts =
+    again-all (workedOut narrow d (map cl (map unworked rs))) rs
+    ∙ ap (λ (cs : List ℕ). workedFrom (workedOut narrow d cs) rs) (unworked-clusters rs)
+    ∙ worked-is-built narrow (omega arith) d rs facts
+
+module _ (d : ℕ) (rs : List Row) (k : Accepted d rs) where
   abbrev es : List (Entry Result)
   es = map unworked rs
 
@@ -103,36 +111,32 @@ module _ (d : ℕ) (rs : List Row) (k : Rows rs) where
   count : length es ≡ length rs
   count = length-map rs unworked
 
-  clusters-are : clustersDown (table .clusters) (length es) ≡ clustersOf rs
-  clusters-are = sym (entries-clusters table (length es)) ∙ ap (map cl) (entries-table d es) ∙ map-clusters rs
+  same-clusters : clustersDown (table .clusters) (length es) ≡ map cl es
+  same-clusters = sym (clusters-are table (length es)) ∙ ap (map cl) (entries-table d es)
 
   pub again-is : againTable table 0 ≡ tableOf d (builtTable narrow d rs)
   again-is =
       ap (tableOf d) (
-      ap₂ (λ (cs : List ℕ) (t : List (Entry Result)). again (workedOut narrow d cs) 0 t) clusters-are (entries-table d es)
-      ∙ again-all (workedOut narrow d (clustersOf rs)) rs
-      ∙ worked-is-built narrow (omega arith) d rs (k .facts))
+      ap₂ (λ (cs : List ℕ) (t : List (Entry Result)). again (workedOut narrow d cs) 0 t) same-clusters (entries-table d es)
+      ∙ again-built d rs (k .facts))
 
   rising : Rising (table .clusters) (length es)
-  rising = record { long = omega (arith, table-sized d es (omega (arith, count, k .room)) .clusters, count, k .room); up = up }
-    where
-      falls : Falling (through (λ (c : ℕ). c) (table .clusters) (length es))
-      falls = subst Falling (sym clusters-are ∙ down-through (table .clusters) (length es)) (k .facts .falls)
-
-      up : (i j : ℕ) → i < j → j < length es → getD (table .clusters) i 0 < getD (table .clusters) j 0
-      up i j a b = falling-at (λ (c : ℕ). c) (table .clusters) (length es) falls i j a b
+  rising = record {
+    long = omega (arith, table-sized d es (omega (arith, count, k .capped)) .clusters, count, k .capped);
+    up = falling-ascends (table .clusters) (length es) (rw (same-clusters, unworked-clusters rs) (k .facts .falls));
+  }
 
   -- a row of the table is one of the rows, with no results
   at-row : (i : ℕ) → i < length es → (r : Row) × Mem r rs × (unworked r ≡ entryAt table i)
-  at-row i h = Memᴰ·of-map unworked rs (subst (Mem (entryAt table i)) (entries-table d es) (entries-mem table (length es) i h))
+  at-row i h = Memᴰ·of-map unworked rs (subst (Mem (entryAt table i)) (entries-table d es) (mem-entries table (length es) i h))
 
-  pub workable : degreeLow ≤ d → d ≤ degreeHigh → Workable table 0
-  workable low high = record {
+  pub workable : Workable table 0
+  workable = record {
     some = omega (arith, count, k .some);
-    capped = omega (arith, count, k .room);
-    sized = table-sized d es (omega (arith, count, k .room));
-    low = low;
-    high = high;
+    capped = omega (arith, count, k .capped);
+    sized = table-sized d es (omega (arith, count, k .capped));
+    low = k .low;
+    high = k .high;
     rising = rising;
     rules = λ i h. let q = at-row i h in subst (λ (e : Entry Result). T (keepsRules narrow (e .row))) (q .2) (k .rules (q .0) (q .1));
     fit = λ i h out. absurd (out (zero-inside (rowAt table i .cluster)));
@@ -193,16 +197,18 @@ module _ {l : List ℕ} {n : ℕ} {s : Listed} {o : Order} (d : ℕ) (known : In
         (through-ext (rowFrom s) (rowIn l) (o .places) n as-read ∙ known .order .rows all-placed l has-clusters)
 
     module _ (byte : (i : ℕ) → getD l i 0 < byteValues) (ready : Makeable l n d) where
-      rows : Rows (rowsTo l n)
+      rows : Accepted d (rowsTo l n)
       rows = record {
+        low = ready .low;
+        high = ready .high;
         some = omega (arith, rows-length l n, ready .some);
-        room = omega (arith, rows-length l n, ready .room);
+        capped = omega (arith, rows-length l n, ready .room);
         facts = row-facts l byte n kept once;
         rules = row-rules l byte n kept;
       }
 
       pub made-workable : Workable (arrangedTable (rowFrom s) (o .places) n d) 0
-      made-workable = rw arranged-is (workable d (rowsTo l n) rows (ready .low) (ready .high))
+      made-workable = rw arranged-is (workable d (rowsTo l n) rows)
 
       accepted : recordRefusal l n ≡ none
       accepted = record-none l n n n none-bad (omega arith) none-repeated (omega arith)

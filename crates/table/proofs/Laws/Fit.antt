@@ -7,11 +7,13 @@
 --     FitRow, fitEntry-is, fit→, →fit, fit-rules     a fit row
 --     everyEntry→, →everyEntry, blankFrom→, →blankFrom, fitEntries-is, isRising→, →isRising     all rows, by row number
 --     FitTable, fitTable-is, isFit→, →isFit     a fit table
+--     fit-falls, fit-each, entries-rising     the same by the entries of its rows
 -- Assumes nothing.
 use mathlib.Core.Path.{_≡_, refl, sym, ap, _∙_, subst}
 use mathlib.Core.Logic.{_⊎_, inl, inr, ⊎-elim, ⊎-map, _≢_}
 use mathlib.Core.Bool.{Bool, true, false, not, cond, _&&_, _||_, and-assoc, and-comm, and-true, and-false}
 use mathlib.Core.List.{List, map}
+use mathlib.Core.List.{List·Memᴰ as Mem}
 use Prim.Native.Nat.{ℕ, zero, suc, _+_, _-_, _*_, _^_, _≤_, _<_}
 use native.Mathlib.Decide.{ℕ-discrete}
 use native.Mathlib.Nat.{pos-of-ne-zero}
@@ -23,6 +25,7 @@ use lib.ListN.{length, getD}
 use Rattle.laws.specs.Cluster.{inside, size, single}
 use Rattle.laws.specs.Limits.{Width, narrow, weightMax, degreeLow, degreeHigh}
 use Rattle.laws.specs.Lists.{every}
+use Rattle.laws.proofs.Falling.{Falling}
 use Rattle.laws.proofs.Tests.{T-and, and-T, T-or, or-l, or-r, T-dec, eq→eqb}
 use Rattle.cluster.specs.declared.record.Record.{Record}
 use Rattle.cluster.proofs.Laws.Rule.{Keeps, kept→keeps, keeps→kept}
@@ -33,6 +36,8 @@ use Rattle.table.specs.View.{rowCap, entryAt, entriesOf}
 use Rattle.table.specs.Fit.{isZero, isBlank, isEmpty, everyMarked, isMarkedIn}
 use Rattle.table.specs.Fit.{keepsRules, isRanged, isTold, fitEntry, fitEntries, blankFrom, isFit}
 use Rattle.table.specs.Fitness.{isNothing, isLength, isMark, isLight, isRising}
+use Rattle.table.proofs.Laws.Column.{entries-mem}
+use Rattle.table.proofs.Laws.Marks.{Ascends, clusters-are, falling-clustersDown, falling-ascends}
 
 -- ---- a fit row, test by test
 pub isZero→ : (z : ℤ) → T (isZero z) → z ≡ pos 0
@@ -264,7 +269,7 @@ module _ (t : Table) where
       swap true false r e = sym (and-false r)
 
 module _ (cs : List ℕ) where
-  pub isRising→ : (n : ℕ) → T (isRising cs n) → (i j : ℕ) → i < j → j < n → getD cs i 0 < getD cs j 0
+  pub isRising→ : (n : ℕ) → T (isRising cs n) → Ascends cs n
   isRising→ zero h i j l m = absurd (omega arith)
   isRising→ (suc zero) h i j l m = absurd (omega arith)
   isRising→ (suc (suc n)) h i j l m = go (ℕ-discrete j (suc n)) (ℕ-discrete i n) (isRising→ (suc n) (q .1))
@@ -272,15 +277,12 @@ module _ (cs : List ℕ) where
       q : T (ltb (getD cs n 0) (getD cs (suc n) 0)) × T (isRising cs (suc n))
       q = T-and (ltb (getD cs n 0) (getD cs (suc n) 0)) _ h
 
-      Up : Type 0
-      Up = (i j : ℕ) → i < j → j < suc n → getD cs i 0 < getD cs j 0
-
-      go : Dec (j ≡ suc n) → Dec (i ≡ n) → Up → getD cs i 0 < getD cs j 0
+      go : Dec (j ≡ suc n) → Dec (i ≡ n) → Ascends cs (suc n) → getD cs i 0 < getD cs j 0
       go (yes e) (yes g) f = rw (e, g) (ltb→lt _ _ (q .0))
       go (yes e) (no g) f = rw e (omega (arith, ltb→lt (getD cs n 0) (getD cs (suc n) 0) (q .0), f i n (omega arith) (omega arith)))
       go (no d) g f = f i j l (omega arith)
 
-  pub →isRising : (n : ℕ) → ((i j : ℕ) → i < j → j < n → getD cs i 0 < getD cs j 0) → T (isRising cs n)
+  pub →isRising : (n : ℕ) → Ascends cs n → T (isRising cs n)
   →isRising zero f = tt
   →isRising (suc zero) f = tt
   →isRising (suc (suc n)) f =
@@ -293,7 +295,7 @@ pub record FitTable (t : Table) : Type 0 where
   pub high : t .degree ≤ degreeHigh
   pub some : 1 ≤ t .rows
   pub capped : t .rows ≤ rowCap
-  pub rising : (i j : ℕ) → i < j → j < t .rows → getD (t .clusters) i 0 < getD (t .clusters) j 0
+  pub rising : Ascends (t .clusters) (t .rows)
   pub fit : (i : ℕ) → i < t .rows → T (fitEntry narrow (map cl (entriesOf t (t .rows))) (entryAt t i))
   pub blank : (i : ℕ) → t .rows ≤ i → i < rowCap → T (isEmpty (entryAt t i))
 
@@ -332,3 +334,14 @@ pub →isFit : (t : Table) → FitTable t → T (isFit t)
     (and-T (isRising (t .clusters) (t .rows)) _ (→isRising (t .clusters) (t .rows) (f .rising))
     (and-T (every (fitEntry narrow (map cl es)) es) _ (→everyEntry t (fitEntry narrow (map cl es)) (t .rows) (f .fit))
     (→blankFrom t (t .rows) (rowCap - t .rows) (λ j l m. f .blank j l (omega (arith, f .capped))))))))))
+
+-- ---- the same by the entries of the rows
+module _ (t : Table) where
+  pub fit-falls : FitTable t → Falling (map cl (entriesOf t (t .rows)))
+  fit-falls f = rw (clusters-are t (t .rows)) (falling-clustersDown (t .clusters) (t .rows) (f .rising))
+
+  pub fit-each : FitTable t → (e : Entry Result) → Mem e (entriesOf t (t .rows)) → T (fitEntry narrow (map cl (entriesOf t (t .rows))) e)
+  fit-each f e m = let q = entries-mem t (t .rows) e m in rw (q .2) (f .fit (q .0) (q .1))
+
+  pub entries-rising : Falling (map cl (entriesOf t (t .rows))) → Ascends (t .clusters) (t .rows)
+  entries-rising f = falling-ascends (t .clusters) (t .rows) (subst Falling (clusters-are t (t .rows)) f)

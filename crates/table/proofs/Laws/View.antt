@@ -1,6 +1,5 @@
 -- Laws of a table as rows: a table is made of its rows, and rows are a table's.
---     entries-clusters                   the clusters of the first rows
---     Blank, blank-from, →blank-from     rows that are all zero
+--     Blank, empty→blank, blank→empty     a row that is all zero
 --     blank-past            past its rows, and past its arrays, a table shows nothing but zeros
 --     table-is              a table is the table of its rows
 --     entries-table         the rows of the table of rows
@@ -8,28 +7,22 @@
 -- Assumes nothing.
 use mathlib.Core.Path.{_≡_, refl, sym, ap, ap₂, _∙_, subst}
 use mathlib.Core.Bool.{_&&_}
-use mathlib.Core.List.{List, [], _∷_, map}
+use mathlib.Core.List.{List, [], _∷_}
 use Prim.Native.Nat.{ℕ, zero, suc, _+_, _-_, _*_, _/_, _%_, _≤_, _<_}
 use native.Mathlib.Decide.{decLe}
 use native.Mathlib.Omega.{arith}
 use lib.Dec.{T, eqb, eqb→eq}
-use lib.IntN.{ℤ, pos, negsuc}
+use lib.IntN.{pos}
 use lib.ListN.{getD, length, List·getD-eq-default}
-use Rattle.laws.proofs.Tests.{T-and, and-T}
-use Rattle.trees.specs.Rows.{Entry, cl}
+use Rattle.laws.proofs.Tests.{T-and}
+use Rattle.trees.specs.Rows.{Entry}
 use Rattle.trees.specs.Result.{Result, blank}
 use Rattle.table.specs.declared.table.Table.{Table}
 use Rattle.table.specs.View.{rowCap, wordValues, rowAt, resultAt, entryAt, entriesOf, tableOf}
 use Rattle.table.specs.Fit.{isZero, isBlank, isEmpty, blankFrom}
-use Rattle.table.specs.Searched.{clustersDown}
 use Rattle.table.specs.Working.{Sized}
 use Rattle.table.proofs.Laws.Column.{entries-length, length-column, column-past, column-first, column-rest, column-is}
-
--- ---- entries
-
-pub entries-clusters : (t : Table) (n : ℕ) → map cl (entriesOf t n) ≡ clustersDown (t .clusters) n
-entries-clusters t zero = refl
-entries-clusters t (suc n) = ap (λ (cs : List ℕ). getD (t .clusters) n 0 ∷ cs) (entries-clusters t n)
+use Rattle.table.proofs.Laws.Fit.{isZero→, isBlank→, blankFrom→, →blankFrom}
 
 -- ---- rows that are all zero
 
@@ -44,47 +37,30 @@ pub record Blank (t : Table) (i : ℕ) : Type 0 where
   pub low : getD (t .«members_low») i 0 ≡ 0
   pub high : getD (t .«members_high») i 0 ≡ 0
 
-zero-of : (z : ℤ) → T (isZero z) → z ≡ pos 0
-zero-of (pos n) h = ap pos (eqb→eq n 0 h)
-zero-of (negsuc n) h = absurd (omega (arith, eqb→eq (suc n) 0 h))
-
-empty→blank : (t : Table) (i : ℕ) → T (isEmpty (entryAt t i)) → Blank t i
+pub empty→blank : (t : Table) (i : ℕ) → T (isEmpty (entryAt t i)) → Blank t i
 empty→blank t i h =
     let r = rowAt t i in
     let v = resultAt t i in
     let a = T-and (eqb (r .cluster) 0 && isZero (r .weight) && eqb (r .state) 0) (isBlank v) h in
     let b = T-and (eqb (r .cluster) 0 && isZero (r .weight)) (eqb (r .state) 0) (a .0) in
     let c = T-and (eqb (r .cluster) 0) (isZero (r .weight)) (b .0) in
-    let d = T-and (eqb (v .length) 0 && eqb (v .count) 0 && eqb (v .mark) 0 && isZero (v .best)) (eqb (v .members) 0) (a .1) in
-    let e = T-and (eqb (v .length) 0 && eqb (v .count) 0 && eqb (v .mark) 0) (isZero (v .best)) (d .0) in
-    let f = T-and (eqb (v .length) 0 && eqb (v .count) 0) (eqb (v .mark) 0) (e .0) in
-    let g = T-and (eqb (v .length) 0) (eqb (v .count) 0) (f .0) in
-    let m : v .members ≡ 0 = eqb→eq (v .members) 0 (d .1) in
+    let e : v ≡ blank = isBlank→ v (a .1) in
+    let m : v .members ≡ 0 = ap (λ (x : Result). x .members) e in
     record {
       cluster = eqb→eq (r .cluster) 0 (c .0);
-      weight = zero-of (r .weight) (c .1);
+      weight = isZero→ (r .weight) (c .1);
       state = eqb→eq (r .state) 0 (b .1);
-      length = eqb→eq (v .length) 0 (g .0);
-      count = eqb→eq (v .count) 0 (g .1);
-      mark = eqb→eq (v .mark) 0 (f .1);
-      best = zero-of (v .best) (e .1);
+      length = ap (λ (x : Result). x .length) e;
+      count = ap (λ (x : Result). x .count) e;
+      mark = ap (λ (x : Result). x .mark) e;
+      best = ap (λ (x : Result). x .best) e;
       low = omega (arith, m);
       high = omega (arith, m);
     }
 
-pub blank-from : (t : Table) (i k : ℕ) → T (blankFrom t i k) → (j : ℕ) → i ≤ j → j < i + k → Blank t j
-blank-from t i zero h j a b = absurd (omega arith)
-blank-from t i (suc k) h j a b = go (decLe (suc i) j) (λ l. blank-from t (suc i) k (q .1) j l (omega arith))
-  where
-    q : T (isEmpty (entryAt t i)) × T (blankFrom t (suc i) k)
-    q = T-and (isEmpty (entryAt t i)) (blankFrom t (suc i) k) h
-
-    go : Dec (suc i ≤ j) → (suc i ≤ j → Blank t j) → Blank t j
-    go (yes l) r = r l
-    go (no l) r = subst (Blank t) (let e : i ≡ j = omega arith in e) (empty→blank t i (q .0))
-
 -- past the array's end there is nothing but the default
-pub blank-past : (t : Table) → Sized t → t .rows ≤ rowCap → T (blankFrom t (t .rows) (rowCap - t .rows)) → (i : ℕ) → t .rows ≤ i → Blank t i
+pub blank-past : (t : Table) → Sized t → t .rows ≤ rowCap → T (blankFrom t (t .rows) (rowCap - t .rows)) → (i : ℕ) → t .rows ≤ i
+    → Blank t i
 blank-past t s h b i l = go (decLe rowCap i)
   where
     out : {A : Type 0} (a : List A) (z : A) → length a ≡ rowCap → rowCap ≤ i → getD a i z ≡ z
@@ -102,7 +78,7 @@ blank-past t s h b i l = go (decLe rowCap i)
       low = out (t .«members_low») 0 (s .lows) k;
       high = out (t .«members_high») 0 (s .highs) k;
     }
-    go (no k) = blank-from t (t .rows) (rowCap - t .rows) b i l (omega arith)
+    go (no k) = empty→blank t i (blankFrom→ t (t .rows) (rowCap - t .rows) b i l (omega arith))
 
 -- ---- a table is the table of its rows
 
@@ -156,7 +132,8 @@ module _ (d : ℕ) where
     };
   }
 
-  entry-below : (e : Entry Result) (es : List (Entry Result)) (j : ℕ) → j < length es → entryAt (tableOf d (e ∷ es)) j ≡ entryAt (tableOf d es) j
+  entry-below : (e : Entry Result) (es : List (Entry Result)) (j : ℕ) → j < length es
+      → entryAt (tableOf d (e ∷ es)) j ≡ entryAt (tableOf d es) j
   entry-below e es j h = λ i. record {
     row = record {
       cluster = column-rest 0 (λ (x : Entry Result). x .row .cluster) e es j h i;
@@ -173,7 +150,8 @@ module _ (d : ℕ) where
     };
   }
 
-  entries-below : (e : Entry Result) (es : List (Entry Result)) (n : ℕ) → n ≤ length es → entriesOf (tableOf d (e ∷ es)) n ≡ entriesOf (tableOf d es) n
+  entries-below : (e : Entry Result) (es : List (Entry Result)) (n : ℕ) → n ≤ length es
+      → entriesOf (tableOf d (e ∷ es)) n ≡ entriesOf (tableOf d es) n
   entries-below e es zero h = refl
   entries-below e es (suc n) h =
       ap₂ (λ (x : Entry Result) (l : List (Entry Result)). x ∷ l) (entry-below e es n (omega arith)) (entries-below e es n (omega arith))
@@ -181,7 +159,8 @@ module _ (d : ℕ) where
   pub entries-table : (es : List (Entry Result)) → entriesOf (tableOf d es) (length es) ≡ es
   entries-table [] = refl
   entries-table (e ∷ es) =
-      ap₂ (λ (x : Entry Result) (l : List (Entry Result)). x ∷ l) (entry-top e es) (entries-below e es (length es) (omega arith) ∙ entries-table es)
+      ap₂ (λ (x : Entry Result) (l : List (Entry Result)). x ∷ l) (entry-top e es)
+      (entries-below e es (length es) (omega arith) ∙ entries-table es)
 
   module _ (es : List (Entry Result)) (h : length es ≤ rowCap) where
     pub table-sized : Sized (tableOf d es)
@@ -210,7 +189,7 @@ module _ (d : ℕ) where
     high = column-past 0 (λ (e : Entry Result). e .val .members / wordValues) es i h;
   }
 
-blank→empty : (t : Table) (i : ℕ) → Blank t i → T (isEmpty (entryAt t i))
+pub blank→empty : (t : Table) (i : ℕ) → Blank t i → T (isEmpty (entryAt t i))
 blank→empty t i b = subst (λ (e : Entry Result). T (isEmpty e)) (sym same) tt
   where
     same : entryAt t i ≡ record { row = record { cluster = 0; weight = pos 0; state = 0 }; val = blank }
@@ -225,10 +204,5 @@ blank→empty t i b = subst (λ (e : Entry Result). T (isEmpty e)) (sym same) tt
       };
     }
 
-pub →blank-from : (t : Table) (i k : ℕ) → ((j : ℕ) → i ≤ j → Blank t j) → T (blankFrom t i k)
-→blank-from t i zero f = tt
-→blank-from t i (suc k) f =
-    and-T (isEmpty (entryAt t i)) (blankFrom t (suc i) k) (blank→empty t i (f i (omega arith))) (→blank-from t (suc i) k (λ j l. f j (omega arith)))
-
 pub table-blank : (d : ℕ) (es : List (Entry Result)) (k : ℕ) → T (blankFrom (tableOf d es) (length es) k)
-table-blank d es k = →blank-from (tableOf d es) (length es) k (λ j l. table-past d es j l)
+table-blank d es k = →blankFrom (tableOf d es) (length es) k (λ j l m. blank→empty (tableOf d es) j (table-past d es j l))
