@@ -15,8 +15,9 @@ use Rattle.trees.specs.Heaviest.{firstHeaviest}
 use Rattle.table.specs.declared.table.Table.{Table}
 use Rattle.table.specs.Listing.{rowsOf}
 use Rattle.table.specs.Build.{buildTable}
-use Rattle.table.proofs.Changes.{changeAll, AcceptedBytes, changes-accepted}
-use Rattle.table.proofs.Theorems.{rescoreAll, rescore-all-is-build}
+use Rattle.table.specs.Changes.{changeAll, rescoreAll}
+use Rattle.table.proofs.Changes.{AcceptedBytes, changes-accepted}
+use Rattle.table.proofs.Theorems.{rescore-all-is-build}
 use Rattle.drawing.specs.Draw.{drawRefusal, drawTree, drawText}
 use Rattle.drawing.specs.Drawn.{ascending, textOf}
 use Rattle.drawing.proofs.LeafRow.{leaves, treesOf}

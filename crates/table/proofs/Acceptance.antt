@@ -34,7 +34,8 @@ use Rattle.trees.proofs.Rows.{RowFacts}
 use Rattle.table.specs.Listing.{recordsIn, rowIn, badFrom, repeats, repeatFrom, rowsOf, recordRefusal}
 use Rattle.table.specs.View.{tableOf}
 use Rattle.table.specs.Build.{Making, refusalOf, buildTable}
-use Rattle.table.proofs.Laws.Scan.{firstFrom, first-before, first-at, first-of, first-all}
+use Rattle.table.specs.Changes.{firstFrom}
+use Rattle.table.proofs.Laws.Scan.{first-before, first-at, first-of, first-all}
 use Rattle.table.proofs.Laws.Insert.{falling-only}
 use Rattle.table.proofs.Laws.Listing.{breaks, bad-is, repeat-is}
 use Rattle.table.proofs.Laws.Listing.{rows-mem, rows-has, rows-fall, rows-length, row-facts, row-rules}

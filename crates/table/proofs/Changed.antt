@@ -1,7 +1,5 @@
--- A list with one record rewritten: what its bytes, its records and its rows are (document 01, "The record").
+-- A list with one record rewritten, `changedBytes` of `specs/Changes.antt`: what its bytes, its records and its rows are.
 --     changedRow r z s                the row r with weight z and state s
---     changedRecord l i z s           record i of l with weight z and state s
---     changedBytes l i z s            the list l with record i rewritten so
 --     changed-length, changed-records as long as l, and as many records
 --     changed-bytes                   bytes stay bytes
 --     changed-same, changed-other     record i has the new score and its cluster; every other is as it was
@@ -30,6 +28,7 @@ use Rattle.trees.specs.Rescored.{putScore}
 use Rattle.trees.proofs.Rescore.{put-cluster}
 use Rattle.table.specs.Listing.{recordsIn, bytesAt, rowIn, insertRow, rowsTo, rowsOf}
 use Rattle.table.specs.Rescore.{isScore}
+use Rattle.table.specs.Changes.{changedRecord, changedBytes}
 use Rattle.table.proofs.Laws.Accepted.{KeepsAt, Accepted}
 use Rattle.table.proofs.Rewritten.{put-length, put-same, put-before, put-after}
 use Rattle.table.proofs.Rewritten.{Bytes, append-bytes, take-bytes, drop-bytes, record-bytes}
@@ -39,13 +38,6 @@ use Rattle.table.proofs.Laws.Listing.{cluster-small}
 
 abbrev pub changedRow : Row → ℤ → ℕ → Row
 changedRow r z s = record { cluster = r .cluster; weight = z; state = s }
-
-abbrev pub changedRecord : List ℕ → ℕ → ℤ → ℕ → Record
-changedRecord l i z s = record { cluster = rowIn l i .cluster; weight = z; state = s }
-
-abbrev pub changedBytes : List ℕ → ℕ → ℤ → ℕ → List ℕ
-changedBytes l i z s =
-    take (i * recordBytes) l ++ bytesOf (changedRecord l i z s) ++ drop (i * recordBytes + recordBytes) l
 
 module _ (l : List ℕ) (byte : Bytes l) (i : ℕ) (z : ℤ) (s : ℕ) (within : i < recordsIn l) (score : T (isScore z s)) where
   abbrev changed : List ℕ

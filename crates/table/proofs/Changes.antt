@@ -1,15 +1,11 @@
--- A list changed once and again. A change is a cluster with a new weight and state; one that isn't taken leaves the list alone.
---     HasCluster l c                  c is the cluster of a record
---     firstPlace l c                  the first record with the cluster c; the number of records where there is none
---     isTaken l x                     the change x names the cluster of a record, and has a score
---     changeOne, changeAll            a list with one change, and with one after another
+-- A list changed once and again (`specs/Changes.antt`): which changes are taken, and that an accepted list stays accepted.
 --     taken-iff, taken-place, place-cluster     when a change is taken, and which record it names
 --     AcceptedBytes l d               l is accepted, and of bytes
 --     change-accepted, changes-accepted     and stays so
 -- Assumes nothing.
 use mathlib.Core.Path.{_≡_, sym}
 use mathlib.Core.Logic.{_↔_}
-use mathlib.Core.Bool.{Bool, true, false, cond, _&&_}
+use mathlib.Core.Bool.{Bool, true, false, cond}
 use mathlib.Core.List.{List, [], _∷_}
 use Prim.Native.Nat.{ℕ, _<_}
 use native.Mathlib.Decide.{decLt}
@@ -20,26 +16,11 @@ use Rattle.laws.proofs.Tests.{T-and, and-T}
 use Rattle.trees.specs.Rows.{Row}
 use Rattle.table.specs.Listing.{recordsIn, rowIn}
 use Rattle.table.specs.Rescore.{isScore}
+use Rattle.table.specs.Changes.{HasCluster, firstPlace, isTaken, changedBytes, changeOne, changeAll}
 use Rattle.table.proofs.Laws.Accepted.{Accepted}
-use Rattle.table.proofs.Changed.{changedBytes, changed-bytes, changed-accepted}
+use Rattle.table.proofs.Changed.{changed-bytes, changed-accepted}
 use Rattle.table.proofs.Rewritten.{Bytes}
-use Rattle.table.proofs.Laws.Scan.{firstFrom, first-before, first-at}
-
-abbrev pub HasCluster : List ℕ → ℕ → Type 0
-HasCluster l c = (i : ℕ) × (i < recordsIn l) × (c ≡ rowIn l i .cluster)
-
-abbrev pub firstPlace : List ℕ → ℕ → ℕ
-firstPlace l c = firstFrom (λ (i : ℕ). eqb (rowIn l i .cluster) c) 0 (recordsIn l)
-
-abbrev pub isTaken : List ℕ → Row → Bool
-isTaken l x = ltb (firstPlace l (x .cluster)) (recordsIn l) && isScore (x .weight) (x .state)
-
-abbrev pub changeOne : List ℕ → Row → List ℕ
-changeOne l x = cond (isTaken l x) (changedBytes l (firstPlace l (x .cluster)) (x .weight) (x .state)) l
-
-abbrev pub changeAll : List ℕ → List Row → List ℕ
-changeAll l [] = l
-changeAll l (x ∷ xs) = changeAll (changeOne l x) xs
+use Rattle.table.proofs.Laws.Scan.{first-before, first-at}
 
 module _ (l : List ℕ) (c : ℕ) where
   abbrev named : ℕ → Bool

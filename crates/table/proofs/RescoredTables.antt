@@ -3,7 +3,7 @@
 --     rescore-of                            what is given, by why it is refused
 --     rescore-accepts-iff                   a rescoring succeeds exactly for a fit table, a cluster with a row and a score
 --     rescore-refuses-iff                   and gives each refusal exactly where the paper says so
---     rescore-done-iff, rescore-refused     what is sent back tells a success; else the table is as it was given
+--     rescore-refused                       else the table is as it was given
 --     new-keeps-others                      in a new table, no row changes that doesn't contain the rescored cluster
 --     rescore-keeps-others                  nor in what any rescoring hands back
 --     rescore-only                          two outcomes that the promise of a rescoring allows are equal
@@ -22,11 +22,9 @@ use lib.ListN.{length, length-map}
 use Rattle.laws.specs.Cluster.{inside}
 use Rattle.laws.specs.Limits.{narrow}
 use Rattle.cluster.specs.declared.refusal.Answer.{Answer}
-use Rattle.cluster.specs.declared.refusal.Answer.the-variants.{Done, Refused}
 use Rattle.cluster.specs.declared.refusal.Refusal.{Refusal}
 use Rattle.cluster.specs.declared.refusal.Refusal.the-variants.{NoBytes, WrongLength, TooLong, DegreeOut, BadRecord, Repeated}
 use Rattle.cluster.specs.declared.refusal.Refusal.the-variants.{NoTree, Unfit, NoRow, BadScore, NoRoom}
-use Rattle.cluster.specs.Refusal.{sentOf}
 use Rattle.cluster.proofs.Laws.Refusal.{sentOf-inj}
 use Rattle.trees.specs.Rows.{Row, Entry, cl}
 use Rattle.trees.specs.Result.{Result}
@@ -108,16 +106,6 @@ module _ (t : Table) (c : ℕ) (z : ℤ) (s : ℕ) where
       told true true false e = let q : BadScore ≡ f = cc in subst (WhyBy true true false) q (tt, tt, λ x. x)
       told true false b e = let q : NoRow ≡ f = cc in subst (WhyBy true false b) q (tt, λ x. x)
       told false a b e = let q : Unfit ≡ f = cc in subst (WhyBy false a b) q (λ x. x)
-
-  -- what is sent back tells whether it succeeded
-  pub rescore-done-iff : (rescoreTable t c z s .sent ≡ sentOf (Done 0)) ↔ (rescoreRefusal t c z s ≡ none)
-  rescore-done-iff = (go (rescoreRefusal t c z s) refl, λ e. ap (λ (m : Changing). m .sent) (rescore-of e))
-    where
-      go : (x : Option Refusal) → rescoreRefusal t c z s ≡ x → rescoreTable t c z s .sent ≡ sentOf (Done 0) → x ≡ none
-      go none e q = refl
-      go (some f) e q =
-          let same = sentOf-inj (Refused f) (Done 0) (ap (λ (m : Changing). m .sent) (sym (rescore-of e)) ∙ q) in
-          let no : _≡_ {A = ℕ} 0 1 = cc in absurd (omega arith)
 
   -- a rescoring that isn't taken leaves the table as it is
   pub rescore-refused : (rescoreRefusal t c z s ≡ none → ⊥) → rescoreTable t c z s .table ≡ t

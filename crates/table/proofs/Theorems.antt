@@ -19,7 +19,7 @@
 --     build-only (Laws/Build.antt)                  `build`
 --     rescore-only (RescoredTables.antt)            `rescore`
 --     value-only (`cluster`, Theorems.antt)         `zero_table`, `is_fit`, `row_of`, `leaf_set`: the promise is an equation to a value
--- Definitions: `changedBytes` in Changed.antt, `changeAll` in Changes.antt, `rescoreAll` here.
+-- Definitions of changes and of rescoring once and again (`changedBytes`, `changeAll`, `rescoreAll`): `specs/Changes.antt`.
 -- Assumes nothing.
 use mathlib.Core.Path.{_≡_, refl, sym, ap, _∙_, subst}
 use mathlib.Core.Logic.{_↔_}
@@ -47,10 +47,10 @@ use Rattle.table.specs.Fit.{isFit}
 use Rattle.table.specs.Listing.{recordsIn, clustersTo, rowsOf}
 use Rattle.table.specs.Build.{buildTable}
 use Rattle.table.specs.Rescore.{Changing, isScore, hasRow, rescoreRefusal, newTable, rescoreTable}
+use Rattle.table.specs.Changes.{HasCluster, firstPlace, isTaken, changedBytes, changeOne, changeAll, rescoreAll}
 use Rattle.table.proofs.Laws.Accepted.{Accepted}
 use Rattle.table.proofs.Acceptance.{accepted-facts, accepted-rows, built-table}
-use Rattle.table.proofs.Changed.{changedBytes, changed-accepted, changed-rows}
-use Rattle.table.proofs.Changes.{HasCluster, firstPlace, isTaken, changeOne, changeAll}
+use Rattle.table.proofs.Changed.{changed-accepted, changed-rows}
 use Rattle.table.proofs.Changes.{place-cluster, taken-place, taken-iff, AcceptedBytes, change-accepted}
 use Rattle.table.proofs.FitTables.{built-fit}
 use Rattle.table.proofs.RescoredTables.{rescore-of, rescore-accepts-iff, rescore-refused}
@@ -136,11 +136,6 @@ module _ (l : List ℕ) (d : ℕ) (byte : Bytes l) (a : Accepted l d) where
           ∙ ap (λ (t : Table). record { sent = sentOf (Done 0); table = t }) new-table-is
 
 -- ---- demand 3: one rescoring after another
-
--- each on the table that the one before hands back
-abbrev pub rescoreAll : Table → List Row → Table
-rescoreAll t [] = t
-rescoreAll t (x ∷ xs) = rescoreAll (rescoreTable t (x .cluster) (x .weight) (x .state) .table) xs
 
 rescore-one : (l : List ℕ) (d : ℕ) (x : Row) → AcceptedBytes l d
     → rescoreTable (buildTable l d .table) (x .cluster) (x .weight) (x .state) .table ≡ buildTable (changeOne l x) d .table

@@ -1,4 +1,4 @@
--- What the contracts of `table` cite. Read in this order.
+-- What the contracts and the theorems of `table` cite. Read in this order.
 -- a table as rows with their results, and back
 pub mod View
 -- what a fit table is
@@ -9,6 +9,8 @@ pub mod Listing
 pub mod Build
 -- rescoring
 pub mod Rescore
+-- lists changed and tables rescored, one change after another: what theorems cite
+pub mod Changes
 -- looking up rows
 pub mod Rows
 -- what the private functions cite: tallies, and what the search may count on

@@ -32,7 +32,7 @@ use Rattle.trees.specs.Rows.{Row, clustersOf}
 use Rattle.trees.proofs.Rows.{RowFacts}
 use Rattle.table.specs.Fit.{keepsRules}
 use Rattle.table.specs.Listing.{bytesAt, rowIn, badFrom, clustersTo, repeats, repeatFrom, rowsTo}
-use Rattle.table.proofs.Laws.Scan.{firstFrom}
+use Rattle.table.specs.Changes.{firstFrom}
 use Rattle.table.proofs.Laws.Insert.{mem-insert, insert-here, insert-there, insert-length, elem-insert, insert-falls}
 
 -- ---- refusals 5 and 6

@@ -3,7 +3,6 @@
 --     First cs c n p       p is the first of n places that has c, or n where none has
 --     placeOf-first        what `placeOf` tells, for a table with no more than the 128 rows
 --     placeOf-lt           a cluster of one of the rows has its place below the number of rows
---     placeOf-only         where the clusters ascend, its place is that row's
 --     hasRow-is            a cluster has a row exactly where its place is below the number of rows
 --     unionTo-more, unionTo-is     the union, one cluster more; as the union of a list
 -- Assumes nothing.
@@ -27,7 +26,7 @@ use Rattle.laws.proofs.Tests.{bool-ext}
 use Rattle.table.specs.declared.table.Table.{Table}
 use Rattle.table.specs.View.{rowCap}
 use Rattle.table.specs.Rows.{shownRows, placeFrom, placeOf, unionTo}
-use Rattle.table.specs.Searched.{clustersDown, Rising}
+use Rattle.table.specs.Searched.{clustersDown}
 use Rattle.table.specs.Rescore.{hasRow}
 use Rattle.table.proofs.Laws.Marks.{clusters-are, mem-clustersDown, clustersDown-mem}
 
@@ -65,7 +64,8 @@ module _ (cs : List ℕ) (c : ℕ) where
       go j h l (no n) = f .before j (omega arith) l
 
   pub placeFrom-first : (i k : ℕ) → First i (i + k) (placeFrom cs c i k)
-  placeFrom-first i zero = record { from = omega arith; within = omega arith; at = λ h. absurd (omega arith); before = λ j h l. absurd (omega arith) }
+  placeFrom-first i zero =
+      record { from = omega arith; within = omega arith; at = λ h. absurd (omega arith); before = λ j h l. absurd (omega arith) }
   placeFrom-first i (suc k) = go (eqb (getD cs i 0) c) refl (placeFrom-first (suc i) k)
     where
       go : (b : Bool) → eqb (getD cs i 0) c ≡ b → First (suc i) (suc i + k) (placeFrom cs c (suc i) k)
@@ -79,7 +79,8 @@ module _ (t : Table) (capped : t .rows ≤ rowCap) (c : ℕ) where
   placeOf-first =
       let e : shownRows t ≡ t .rows = min-eq-left capped in
       let z : 0 + t .rows ≡ t .rows = omega arith in
-      rw e (subst (λ (n : ℕ). First (t .clusters) c 0 n (placeFrom (t .clusters) c 0 (t .rows))) z (placeFrom-first (t .clusters) c 0 (t .rows)))
+      rw e (subst (λ (n : ℕ). First (t .clusters) c 0 n (placeFrom (t .clusters) c 0 (t .rows))) z
+      (placeFrom-first (t .clusters) c 0 (t .rows)))
 
   pub placeOf-lt : (i : ℕ) → i < t .rows → getD (t .clusters) i 0 ≡ c → placeOf t c < t .rows
   placeOf-lt i h e = go (decLt (placeOf t c) (t .rows))
@@ -88,16 +89,10 @@ module _ (t : Table) (capped : t .rows ≤ rowCap) (c : ℕ) where
       go (yes l) = l
       go (no n) = absurd (placeOf-first .before i (omega arith) (omega (arith, placeOf-first .within)) e)
 
-  pub placeOf-only : Rising (t .clusters) (t .rows) → (i : ℕ) → i < t .rows → getD (t .clusters) i 0 ≡ c → placeOf t c ≡ i
-  placeOf-only up i h e = go (decLt i (placeOf t c)) (decLt (placeOf t c) i)
-    where
-      go : Dec (i < placeOf t c) → Dec (placeOf t c < i) → placeOf t c ≡ i
-      go (yes l) d = absurd (placeOf-first .before i (omega arith) l e)
-      go (no n) (yes l) = absurd (omega (arith, up .up (placeOf t c) i l h, e, placeOf-first .at (omega arith)))
-      go (no n) (no m) = omega arith
-
   pub hasRow-is : hasRow t c ≡ ltb (placeOf t c) (t .rows)
-  hasRow-is = ap (elem c) (clusters-are t (t .rows)) ∙ bool-ext (elem c cs) (ltb (placeOf t c) (t .rows)) (λ h. lt→ltb _ _ (found (elem→ c cs h))) back
+  hasRow-is =
+      ap (elem c) (clusters-are t (t .rows))
+      ∙ bool-ext (elem c cs) (ltb (placeOf t c) (t .rows)) (λ h. lt→ltb _ _ (found (elem→ c cs h))) back
     where
       cs : List ℕ
       cs = clustersDown (t .clusters) (t .rows)

@@ -1,5 +1,4 @@
--- The first place that passes a test, of some places one after another: refusals 5 and 6 of a list are told so.
---     firstFrom p i k     the first of the k places from place i on that passes the test p; i + k where none does
+-- The first place that passes a test, `firstFrom` of `specs/Changes.antt`: refusals 5 and 6 of a list are told so.
 --     first-passed, first-stopped, first-ended     one step of a loop over the places, and its two ends
 --     first-low, first-high     where it lies
 --     first-before, first-at    no place before it passes, and it passes itself where it is one of the places
@@ -11,10 +10,7 @@ use Prim.Native.Nat.{ℕ, zero, suc, _+_, _-_, _≤_, _<_}
 use native.Mathlib.Decide.{decLe}
 use native.Mathlib.Numerals.{add-one}
 use native.Mathlib.Omega.{arith}
-
-abbrev pub firstFrom : (ℕ → Bool) → ℕ → ℕ → ℕ
-firstFrom p i zero = i
-firstFrom p i (suc k) = cond (p i) i (firstFrom p (suc i) k)
+use Rattle.table.specs.Changes.{firstFrom}
 
 module _ (p : ℕ → Bool) where
   -- ---- a loop over the places below n
