@@ -2,7 +2,8 @@
 --     Safe                 what `under` asks of its two tallies
 --     Words, words-fit     the marks of two families without a common member add up word by word
 --     light-fits           two weights within a million for each of the members that a tree on R can have, R a word
---     setOf, words-safe, words-clear     a set as a number; marks that add up, and weights that do, are safe, and no low word carries
+--     setOf, membersOf, set-coded     the set of a result as a number, and as a family
+--     words-safe, words-clear     marks that add up, and weights that do, are safe, and no low word carries
 --     part-clear, part-safe     so for a part of R and the covers of what it leaves
 -- Assumes nothing.
 use mathlib.Core.Path.{_≡_, sym, ap, _∙_, subst, subst₂}
@@ -74,11 +75,11 @@ setOf none = 0
 setOf (some x) = x .1 .1
 
 module _ (cs : List ℕ) (b : ℕ) where
-  abbrev membersOf : (m R : ℕ) (u : Option Sol) → Keeps cs b m R u → Fam
+  abbrev pub membersOf : (m R : ℕ) (u : Option Sol) → Keeps cs b m R u → Fam
   membersOf m R none h = empty
   membersOf m R (some x) h = h .members
 
-  set-coded : (m R : ℕ) (u : Option Sol) (h : Keeps cs b m R u) → setOf u ≡ marksIn cs (membersOf m R u h)
+  pub set-coded : (m R : ℕ) (u : Option Sol) (h : Keeps cs b m R u) → setOf u ≡ marksIn cs (membersOf m R u h)
   set-coded m R none h = sym (marks-none cs empty (λ c k t. t))
   set-coded m R (some x) h = h .coded
 

@@ -12,36 +12,31 @@ use mathlib.Core.Bool.{Bool, true, false, not, cond, _&&_}
 use mathlib.Core.Option.{Option, none, some}
 use mathlib.Core.List.{List, [], _∷_, map}
 use mathlib.Core.List.{List·Memᴰ as Mem, List·Memᴰ·head as here, List·Memᴰ·tail as there, List·Memᴰ·not-nil as mem-nil}
-use Prim.Native.Nat.{ℕ, zero, suc, _+_, _-_, _/_, _%_, _^_, _≤_, _<_}
+use Prim.Native.Nat.{ℕ, zero, suc, _+_, _-_, _*_, _/_, _%_, _^_, _≤_, _<_}
 use native.Mathlib.Decide.{decLe}
-use native.Mathlib.Nat.{add-zero, le-refl, lt-of-lt-of-le, one-mul}
+use native.Mathlib.Nat.{le-refl, one-mul}
 use native.Mathlib.Omega.{arith}
 use borrow.Author.Tests.{eq-eqb, ne-eqb}
 use lib.Dec.{T, lit≤}
-use lib.Count.{ones-le}
-use lib.IntN.{ℤ, pos, _+ℤ_}
+use lib.IntN.{ℤ, natAbs, _+ℤ_}
 use lib.ListN.{length, length-map, getD}
-use lib.Pow.{pow-mono, shr-lt}
-use lib.Signed.{mag}
 use mir.Syntax.{w64}
 use mir.Val.{SFits}
-use Rattle.laws.specs.Cluster.{single, highest}
-use Rattle.laws.specs.Limits.{Width, narrow}
+use Rattle.laws.specs.Cluster.{size, single, highest}
+use Rattle.laws.specs.Limits.{Width, narrow, weightMax}
 use Rattle.laws.specs.Lists.{keep, sublists}
-use Rattle.laws.proofs.Integers.{abs-sum-le, mag-le-abs}
 use Rattle.laws.proofs.Keep.{keep-map, keep-all, mem-of-keep}
 use Rattle.laws.proofs.Sublists.{mem-of-sublist}
-use Rattle.laws.proofs.Taxa.{highest-le, highest-gt}
+use Rattle.laws.proofs.Taxa.{size-pos, highest-le, highest-gt}
 use Rattle.trees.specs.Rows.{Row, isScored, scored, Entry, cl, sc}
 use Rattle.trees.specs.Tuple.{isTuple, tuples}
-use Rattle.trees.specs.Result.{Result, blank, marksIn}
+use Rattle.trees.specs.Result.{Result, blank}
 use Rattle.trees.specs.Rescored.{Key, keyOf, firstKey, isLive, ownMark, joined, alone, together, workedOut}
 use Rattle.trees.proofs.Capped.{Res, encode, count-small, second}
 use Rattle.trees.proofs.Covers.{coversOf, tuples-are-covers}
-use Rattle.trees.proofs.Families.{Fam, one, join}
+use Rattle.trees.proofs.Families.{one, Disj}
 use Rattle.trees.proofs.Keys.{Sol, plusSol, timesSol, countKind, solKind}
 use Rattle.trees.proofs.Kind.{prodK, overTuples, valueIf, tuples-map, hom-sum, hom-second}
-use Rattle.trees.proofs.Marks.{marks-lt, marks-join, no-carry}
 use Rattle.trees.proofs.Worked.{markIn, lengthIf, trueResult}
 use Rattle.table.specs.declared.tally.Tally.{Tally}
 use Rattle.table.specs.View.{wordValues}
@@ -56,6 +51,7 @@ use Rattle.table.proofs.KeepsFit.{decode, Over, beneath, worked-is, fou
 use Rattle.table.proofs.Laws.Marks.{mem-clustersDown, mark-down, highest-lt}
 use Rattle.table.proofs.Laws.Searched.{below-le, mem-parts}
 use Rattle.table.proofs.Laws.Working.{low-mark-is, high-mark-is}
+use Rattle.table.proofs.Overflow.{Safe, Words, words-fit, light-fits, setOf, membersOf, set-coded, words-safe, words-clear}
 use Rattle.table.proofs.Rooted.{mine, own-disj}
 
 -- ---- the rows beneath
@@ -109,22 +105,6 @@ module _ (bit bit′ : ℕ → ℕ) where
   sum-bits : (τs : List (List (Entry (Option Sol)))) → overTuples (solKind bit) τs ≡ overTuples (solKind bit′) τs
   sum-bits [] = refl
   sum-bits (τ ∷ τs) = ap₂ plusSol (prod-bits τ) (sum-bits τs)
-
--- ---- a set in two words, with none or with another beside it
-
-low-lt : (m : ℕ) → m % wordValues + 0 < wordValues
-low-lt m = omega arith
-
-high-join : (m n : ℕ) → m % wordValues + n % wordValues < wordValues → m / wordValues + n / wordValues ≡ (m + n) / wordValues
-high-join m n c = omega arith
-
-module _ (l h m : ℕ) (low : l ≡ m % wordValues) (high : h ≡ m / wordValues) where
-  words-alone : m / wordValues < wordValues → (l + 0 < wordValues) × (h + 0 < wordValues)
-  words-alone k = (rw low (low-lt m), rw (high, add-zero (m / wordValues)) k)
-
-  words-join : (n : ℕ) → m % wordValues + n % wordValues < wordValues → (m + n) / wordValues < wordValues
-      → (l + n % wordValues < wordValues) × (h + n / wordValues < wordValues)
-  words-join n c k = (rw low c, rw (high, high-join m n c) k)
 
 -- ---- a row of a table
 
@@ -270,41 +250,33 @@ module _ (k : Columns) (starts : List ℕ) (z : ℤ) (i d : ℕ) (R : Ready k st
       }
 
   -- the row's own mark and its children's members share no row
-  own-clear : (v : Option Sol) → Keeps cs C 2 C v → Clear (some (mine cs C z)) v
-  own-clear none g = tt
-  own-clear (some x) g =
-      subst (λ (n : ℕ). markIn cs C % wordValues + n % wordValues < wordValues) (sym (g .coded))
-      (no-carry 64 cs (one C) (g .members) (own-disj cs C 2 x g))
+  own-words : (v : Option Sol) → Keeps cs C 2 C v → Words (markIn cs C) (setOf v)
+  own-words v g = rw (set-coded cs C 2 C v g) (words-fit cs (one C) (membersOf cs C 2 C v g) (R .sound .short) (others v g))
+    where
+      others : (v : Option Sol) (g : Keeps cs C 2 C v) → Disj (one C) (membersOf cs C 2 C v g)
+      others none g c t u = u
+      others (some x) g c t u = own-disj cs C 2 x g c t u
+
+  own-clear : Clear (some (mine cs C z)) (found .1)
+  own-clear = words-clear (some (mine cs C z)) (found .1) (own-words (found .1) found-bounds)
 
   under-is : underTally (narrow .countMax) (ownTally 1 z i) (tallyOf (narrow .countMax) found)
       ≡ tallyOf (narrow .countMax) (found .0, timesSol (some (mine cs C z)) (found .1))
   under-is =
       ap (λ (o : Tally). underTally (narrow .countMax) o (tallyOf (narrow .countMax) found)) own-encoded
       ∙ tally-under (narrow .countMax) one-limit (some (mine cs C z)) found (le-refl 1) (keeps-counted cs C 2 C (found .1) found-bounds)
-      (own-clear (found .1) found-bounds)
+      own-clear
       ∙ ap (λ (n : ℕ). tallyOf (narrow .countMax) (n, timesSol (some (mine cs C z)) (found .1))) (one-mul (found .0))
 
   -- ---- the sums of the row and what the search found fit their words
-  high-fits : (S : Fam) → marksIn cs S / wordValues < wordValues
-  high-fits S = shr-lt 64 64 (lt-of-lt-of-le (marks-lt cs S) (pow-mono (R .sound .short)))
-
-  members-fit : (v : Option Sol) → Keeps cs C 2 C v
-      → (ownTally 1 z i .low + tallyWith (narrow .countMax) (found .0) v .low < wordValues)
-      × (ownTally 1 z i .high + tallyWith (narrow .countMax) (found .0) v .high < wordValues)
-  members-fit none g =
-      words-alone (lowMark i) (highMark i) (markIn cs C) own-low own-high (high-fits (one C))
-  members-fit (some x) g =
-      let e = marks-join cs (one C) (g .members) (own-disj cs C 2 x g) ∙ ap (λ (m : ℕ). markIn cs C + m) (sym (g .coded)) in
-      words-join (lowMark i) (highMark i) (markIn cs C) own-low own-high (x .1 .1) (own-clear (some x) g)
-      (subst (λ (m : ℕ). m / wordValues < wordValues) e (high-fits (join (one C) (g .members))))
-
-  best-fits : (v : Option Sol) → Keeps cs C 2 C v → SFits w64 (z +ℤ tallyWith (narrow .countMax) (found .0) v .best)
-  best-fits v g = record { sfits = within v g }
+  own-safe : Safe (tallyOf (narrow .countMax) (1, some (mine cs C z))) (tallyOf (narrow .countMax) found)
+  own-safe =
+      words-safe (narrow .countMax) (found .0) (some (mine cs C z)) (found .1) (own-words (found .1) found-bounds)
+      (light-fits C z (tallyOf (narrow .countMax) found .best) (R .small) (light (found .1) found-bounds))
     where
-      within : (v : Option Sol) → Keeps cs C 2 C v → mag (z +ℤ tallyWith (narrow .countMax) (found .0) v .best) < 2 ^ 63
-      within none g = omega (arith, mag-le-abs (z +ℤ pos 0), abs-sum-le z (pos 0), R .light)
-      within (some x) g =
-          omega (arith, mag-le-abs (z +ℤ x .1 .0), abs-sum-le z (x .1 .0), R .light, g .light, ones-le 64 C (R .small))
+      light : (v : Option Sol) → Keeps cs C 2 C v → natAbs z + natAbs (tallyWith (narrow .countMax) (found .0) v .best) ≤ 2 * weightMax * size C
+      light none g = omega (arith, R .light, size-pos C (λ e. omega (arith, R .some)))
+      light (some x) g = omega (arith, R .light, g .light)
 
 -- ---- states and taxa as the code reads them
 
@@ -397,12 +369,7 @@ module _ (k : Columns) (starts : List ℕ) (z : ℤ) (i d : ℕ) (R : Ready k st
       → f ≡ tallyOf (narrow .countMax) (sumCovers (d - 1) (getD (k .clusters) i 0) (partsOf k i))
       → SFits w64 (o .best +ℤ f .best) × ((o .low + f .low < wordValues) × (o .high + f .high < wordValues))
   under-fits o f p q =
+      let safe = own-safe k starts z i d R in
       subst₂ (λ (a b : Tally). SFits w64 (a .best +ℤ b .best) × ((a .low + b .low < wordValues) × (a .high + b .high < wordValues)))
-      (sym p) (sym (q ∙ ap (tallyOf (narrow .countMax)) (found-is k starts z i d R)))
-      (best-fits k starts z i d R v g, members-fit k starts z i d R v g)
-    where
-      v : Option Sol
-      v = found k starts z i d R .1
-
-      g : Keeps (clustersDown (k .clusters) (R .rows)) (getD (k .clusters) i 0) 2 (getD (k .clusters) i 0) (found k starts z i d R .1)
-      g = found-bounds k starts z i d R
+      (sym (p ∙ own-encoded k starts z i d R)) (sym (q ∙ ap (tallyOf (narrow .countMax)) (found-is k starts z i d R)))
+      (safe .best, (safe .low, safe .high))
