@@ -1,5 +1,5 @@
--- What is drawn of a built table after any changes, one after another (document 01, demands 2 and 3): what a fresh build of the changed list
--- would draw.
+-- What is drawn of a built table after any changes, one after another (document 01, demands 2 and 3): what a fresh build of the changed
+-- list would draw.
 --     rescored-refused-iff     7 is sent back exactly where the changed list has no tree
 --     rescored-drawn-iff       and a tree is drawn exactly where it has one, so that 8 is never sent back
 --     rescored-drawTree, rescored-drawText     the first heaviest tree of the changed list
@@ -52,5 +52,6 @@ module _ (l : List ℕ) (d : ℕ) (xs : List Row) (k : AcceptedBytes l d) where
     rescored-drawTree = ap (λ (t : Table). drawTree t room) is-build ∙ build-drawTree changed d (kept .byte) (kept .accepted) room
 
     pub rescored-drawText : drawText after room
-        ≡ treeDrawn (firstHeaviest (rowsOf changed) (treesOf d (rowsOf changed))) (λ (ys : List ℕ). textOf ys (leaves (rowsOf changed))) room
+        ≡ treeDrawn (firstHeaviest (rowsOf changed) (treesOf d (rowsOf changed)))
+        (λ (ys : List ℕ). textOf ys (leaves (rowsOf changed))) room
     rescored-drawText = ap (λ (t : Table). drawText t room) is-build ∙ build-drawText changed d (kept .byte) (kept .accepted) room

@@ -16,10 +16,11 @@ use Rattle.laws.specs.Limits.{Width}
 use Rattle.laws.specs.Lists.{keepIf, keep, sublists, some as any}
 use Rattle.laws.proofs.Keep.{keep-ext, keep-map}
 use Rattle.laws.proofs.Sublists.{sublists-map}
-use Rattle.trees.specs.Rows.{Row, isScored, Entry, cl, sc}
+use Rattle.trees.specs.Rows.{Row, isScored, cl, sc}
 use Rattle.trees.specs.Tuple.{isTuple, tuples}
 use Rattle.trees.specs.Result.{Result, blank}
-use Rattle.trees.specs.Rescored.{Beneath, timesCounts, sumCounts, isLive, isMarked, isMany, Key, keyOf, firstKey, ownMark, joined, alone, workedOut}
+use Rattle.trees.specs.Rescored.{Beneath, timesCounts, sumCounts, isLive, isMarked, isMany}
+use Rattle.trees.specs.Rescored.{Key, keyOf, firstKey, ownMark, joined, alone, workedOut}
 use Rattle.trees.proofs.Covers.{clusters-map}
 use Rattle.table.specs.declared.table.Table.{Table}
 use Rattle.table.specs.View.{entryAt, entriesOf}
@@ -97,7 +98,8 @@ module _ (W : Width) (d : ℕ) (cs : List ℕ) (r : Row) where
   }
 
   worked-tuples : List (List Beneath) → Result
-  worked-tuples τs = cond (isScored r) (cond (single (r .cluster)) (alone cs r) (joined W cs r (length τs) τs (firstKey (map keyOf (keep isLive τs))))) blank
+  worked-tuples τs =
+      cond (isScored r) (cond (single (r .cluster)) (alone cs r) (joined W cs r (length τs) τs (firstKey (map keyOf (keep isLive τs))))) blank
 
   same-tuples : (τs : List (List Beneath)) → worked-tuples (map (map bare) τs) ≡ worked-tuples τs
   unfolding worked-tuples

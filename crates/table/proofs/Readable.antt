@@ -1,6 +1,6 @@
 -- Rows that may be read: as parts they fall, keep what sums keep, and the code's form of one is its tally. Looking a row up.
 --     scored-of-one, one-of-scored     state 1 is scored
---     readable-fewer                   fewer rows may be read too
+--     long-fewer, readable-fewer       fewer rows may be read too
 --     parts-fall               the parts fall
 --     part-keeps, parts-keep   the scored ones keep what sums keep; b is above all of them
 --     part-is                  the code's form of a scored row is the tally of one tuple
@@ -56,7 +56,7 @@ module _ (limit : ℕ) (k : Columns) (m n : ℕ) (h : m ≤ n) where
     good = λ i l. s .good i (omega arith);
   }
 
-  long-fewer : Long k n → Long k m
+  pub long-fewer : Long k n → Long k m
   long-fewer l = record {
     clusters = omega (arith, l .clusters);
     states = omega (arith, l .states);

@@ -16,7 +16,6 @@ use Prim.Native.Nat.{ℕ, zero, suc, _+_, _-_, _*_, _/_, _%_, _^_, _≤_, _<_}
 use native.Mathlib.Decide.{decLe}
 use native.Mathlib.Nat.{le-refl, one-mul}
 use native.Mathlib.Omega.{arith}
-use borrow.Author.Tests.{eq-eqb, ne-eqb}
 use lib.Dec.{T, lit≤}
 use lib.IntN.{ℤ, natAbs, _+ℤ_}
 use lib.ListN.{length, length-map, getD}
@@ -28,6 +27,7 @@ use Rattle.laws.specs.Lists.{keep, sublists}
 use Rattle.laws.proofs.Keep.{keep-map, keep-all, mem-of-keep}
 use Rattle.laws.proofs.Sublists.{mem-of-sublist}
 use Rattle.laws.proofs.Taxa.{size-pos, highest-le, highest-gt}
+use Rattle.laws.proofs.Tests.{T-true, T-false}
 use Rattle.trees.specs.Rows.{Row, isScored, scored, Entry, cl, sc}
 use Rattle.trees.specs.Tuple.{isTuple, tuples}
 use Rattle.trees.specs.Result.{Result, blank}
@@ -40,7 +40,7 @@ use Rattle.trees.proofs.Kind.{prodK, overTuples, valueIf, tuples-map, hom-sum, 
 use Rattle.trees.proofs.Worked.{markIn, lengthIf, trueResult}
 use Rattle.table.specs.declared.tally.Tally.{Tally}
 use Rattle.table.specs.View.{wordValues}
-use Rattle.table.specs.Searched.{Columns, rowOf, fieldsOf, clustersDown, Long, GoodRow, Searchable}
+use Rattle.table.specs.Searched.{Columns, rowOf, fieldsOf, clustersDown, GoodRow, Searchable}
 use Rattle.table.specs.Searched.{sumKind, sumCovers, partsOf}
 use Rattle.table.specs.Tally.{tallyWith, tallyOf, fieldsTally, noTally, lowMark, highMark, ownTally, underTally, decoded}
 use Rattle.table.specs.Working.{beneathOf, rowWith, workedRow, Ready}
@@ -52,6 +52,7 @@ use Rattle.table.proofs.Laws.Marks.{mem-clustersDown, mark-down, highes
 use Rattle.table.proofs.Laws.Searched.{below-le, mem-parts}
 use Rattle.table.proofs.Laws.Working.{low-mark-is, high-mark-is}
 use Rattle.table.proofs.Overflow.{Safe, Words, words-fit, light-fits, setOf, membersOf, set-coded, words-safe, words-clear}
+use Rattle.table.proofs.Readable.{scored-of-one, one-of-scored, long-fewer}
 use Rattle.table.proofs.Rooted.{mine, own-disj}
 
 -- ---- the rows beneath
@@ -274,26 +275,29 @@ module _ (k : Columns) (starts : List ℕ) (z : ℤ) (i d : ℕ) (R : Ready k st
       words-safe (narrow .countMax) (found .0) (some (mine cs C z)) (found .1) (own-words (found .1) found-bounds)
       (light-fits C z (tallyOf (narrow .countMax) found .best) (R .small) (light (found .1) found-bounds))
     where
-      light : (v : Option Sol) → Keeps cs C 2 C v → natAbs z + natAbs (tallyWith (narrow .countMax) (found .0) v .best) ≤ 2 * weightMax * size C
+      light : (v : Option Sol) → Keeps cs C 2 C v
+          → natAbs z + natAbs (tallyWith (narrow .countMax) (found .0) v .best) ≤ 2 * weightMax * size C
       light none g = omega (arith, R .light, size-pos C (λ e. omega (arith, R .some)))
       light (some x) g = omega (arith, R .light, g .light)
 
--- ---- states and taxa as the code reads them
+-- ---- states as the code reads them
 
 scored-of : (s : ℕ) → s ≡ 1 → scored s ≡ true
-unfolding scored
-scored-of s e = eq-eqb s 1 e
+scored-of s e = T-true (scored s) (scored-of-one s e)
 
 unscored-of : (s : ℕ) → s ≢ 1 → scored s ≡ false
-unfolding scored
-unscored-of s n = ne-eqb s 1 n
+unscored-of s n = T-false (scored s) (λ t. n (one-of-scored s t))
 
 -- ---- how the code ends
 
 module _ (k : Columns) (starts : List ℕ) (z : ℤ) (i d : ℕ) (R : Ready k starts z i d) where
   pub searchable : Searchable (narrow .countMax) k starts i (getD (k .clusters) i 0)
   searchable = record {
-    readable = record { cs = clustersDown (k .clusters) (R .rows); long = long; sound = R .sound };
+    readable = record {
+      cs = clustersDown (k .clusters) (R .rows);
+      long = long-fewer (narrow .countMax) k i (R .rows) (omega (arith, R .place)) (R .long);
+      sound = R .sound;
+    };
     rows = R .rows;
     within = omega (arith, R .place);
     capped = R .capped;
@@ -309,17 +313,6 @@ module _ (k : Columns) (starts : List ℕ) (z : ℤ) (i d : ℕ) (R : Ready k st
     where
       C′ : ℕ
       C′ = getD (k .clusters) i 0
-
-      long : Long k i
-      long = record {
-        clusters = omega (arith, R .place, R .long .clusters);
-        states = omega (arith, R .place, R .long .states);
-        counts = omega (arith, R .place, R .long .counts);
-        marks = omega (arith, R .place, R .long .marks);
-        bests = omega (arith, R .place, R .long .bests);
-        lows = omega (arith, R .place, R .long .lows);
-        highs = omega (arith, R .place, R .long .highs);
-      }
 
       -- a row beneath that reaches the taxon above the highest of C would be above C
       reach : Dec (i ≤ getD starts (suc (highest C′)) 0) → i ≤ getD starts (suc (highest C′)) 0

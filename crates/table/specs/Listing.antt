@@ -10,11 +10,11 @@
 --     listRefusal l         why a list is refused, the degree bound left aside: 1, 3, 2, 5, 6 in that order; 5 over all records before 6
 --     rowsOf l              the rows of a list
 -- Assumes nothing.
-use mathlib.Core.Bool.{Bool, true, false, not, cond}
+use mathlib.Core.Bool.{Bool, not, cond}
 use mathlib.Core.Option.{Option, none, some}
 use mathlib.Core.List.{List, [], _∷_}
-use Prim.Native.Nat.{ℕ, zero, suc, _+_, _*_, _/_, _%_}
-use lib.Dec.{eqb, leb, ltb}
+use Prim.Native.Nat.{ℕ, zero, suc, _*_, _/_, _%_}
+use lib.Dec.{eqb, ltb}
 use lib.ListN.{length, take, drop}
 use Rattle.laws.specs.Limits.{narrow}
 use Rattle.laws.specs.Lists.{elem}

@@ -7,7 +7,7 @@
 -- Assumes nothing.
 use mathlib.Core.List.{List, [], _∷_, _++_, map, reverse}
 use Prim.Native.Nat.{ℕ, zero, suc, _+_, _-_, _*_, _/_, _%_}
-use lib.IntN.{ℤ, pos}
+use lib.IntN.{pos}
 use lib.ListN.{getD, length, replicate}
 use Rattle.laws.specs.Limits.{narrow}
 use Rattle.trees.specs.Rows.{Row, Entry}

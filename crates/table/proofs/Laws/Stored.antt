@@ -9,7 +9,7 @@ use mathlib.Core.List.{List, _∷_}
 use Prim.Native.Nat.{ℕ, zero, suc, _+_, _*_, _≤_, _<_}
 use native.Mathlib.Omega.{arith}
 use lib.IntN.{pos}
-use lib.ListN.{getD, set, length-set}
+use lib.ListN.{set, length-set}
 use lib.Seq.{getD-set-same, getD-set-other}
 use Rattle.trees.specs.Rows.{Entry}
 use Rattle.trees.specs.Result.{Result}
@@ -36,7 +36,8 @@ stored t i r = record {
   «members_high» = set (t .«members_high») i (r .high);
 }
 
-pub stored-same : (t : Table) (i : ℕ) (r : Tally) → Sized t → i < rowCap → entryAt (stored t i r) i ≡ record { row = rowAt t i; val = resultIn r }
+pub stored-same : (t : Table) (i : ℕ) (r : Tally) → Sized t → i < rowCap
+    → entryAt (stored t i r) i ≡ record { row = rowAt t i; val = resultIn r }
 stored-same t i r s h = λ k. record {
   row = rowAt t i;
   val = record {
@@ -64,7 +65,8 @@ stored-other t i j r n = λ k. record {
 pub stored-entries : (t : Table) (i : ℕ) (r : Tally) (n : ℕ) → n ≤ i → entriesOf (stored t i r) n ≡ entriesOf t n
 stored-entries t i r zero h = refl
 stored-entries t i r (suc n) h =
-    ap₂ (λ (e : Entry Result) (l : List (Entry Result)). e ∷ l) (stored-other t i n r (λ e. omega arith)) (stored-entries t i r n (omega arith))
+    ap₂ (λ (e : Entry Result) (l : List (Entry Result)). e ∷ l) (stored-other t i n r (λ e. omega arith))
+    (stored-entries t i r n (omega arith))
 
 pub stored-sized : (t : Table) (i : ℕ) (r : Tally) → Sized t → Sized (stored t i r)
 stored-sized t i r s = record {
