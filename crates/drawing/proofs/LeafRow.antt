@@ -40,9 +40,10 @@ use Rattle.table.specs.View.{rowCap, resultAt, entryAt, entriesOf, tableOf}
 use Rattle.table.specs.Rows.{shownRows, unionTo, leafSet}
 use Rattle.table.specs.Searched.{clustersDown, Rising}
 use Rattle.table.proofs.FitTables.{Accepted, built-fit}
+use Rattle.table.proofs.Laws.Build.{clusters-of-rows}
 use Rattle.table.proofs.Laws.Column.{mem-entries}
 use Rattle.table.proofs.Laws.Fit.{isFit→}
-use Rattle.table.proofs.Laws.Marks as down
+use Rattle.table.proofs.Laws.Marks.{clusters-are}
 use Rattle.table.proofs.Laws.Rows.{placeOf-first, hasRow-is, unionTo-is}
 use Rattle.table.proofs.Laws.View.{entries-table, table-sized}
 use Rattle.drawing.specs.Draw.{leafRow, hasTree}
@@ -86,22 +87,18 @@ module _ (d : ℕ) (rs : List Row) (k : Accepted d rs) where
   pub shown-is : shownRows t ≡ t .rows
   shown-is = min-eq-left capped
 
-  clusters-built : (l : List Row) → map cl (map entry l) ≡ clustersOf l
-  clusters-built [] = refl
-  clusters-built (r ∷ l) = ap (λ (cs : List ℕ). r .cluster ∷ cs) (clusters-built l)
-
   rows-built : (l : List Row) → map (λ (e : Entry Result). e .row) (map entry l) ≡ l
   rows-built [] = refl
   rows-built (r ∷ l) = ap (λ (q : List Row). r ∷ q) (rows-built l)
 
-  clusters-are : map cl (entriesOf t (t .rows)) ≡ clustersOf rs
-  clusters-are = ap (map cl) (entries-table d (builtTable narrow d rs)) ∙ clusters-built rs
+  clusters-built : map cl (entriesOf t (t .rows)) ≡ clustersOf rs
+  clusters-built = ap (map cl) (entries-table d (builtTable narrow d rs)) ∙ clusters-of-rows (λ (r : Row). builtResult narrow d rs r) rs
 
   pub rows-are : map (λ (e : Entry Result). e .row) (entriesOf t (t .rows)) ≡ rs
   rows-are = ap (map (λ (e : Entry Result). e .row)) (entries-table d (builtTable narrow d rs)) ∙ rows-built rs
 
   pub clusters-down : clustersDown (t .clusters) (t .rows) ≡ clustersOf rs
-  clusters-down = sym (down.clusters-are t (t .rows)) ∙ clusters-are
+  clusters-down = sym (clusters-are t (t .rows)) ∙ clusters-built
 
   pub rising : Rising (t .clusters) (t .rows)
   rising = record {
@@ -126,7 +123,7 @@ module _ (d : ℕ) (rs : List Row) (k : Accepted d rs) where
       is = hasRow-is t capped (leafSet t)
 
       listed : elem (leafSet t) (map cl (entriesOf t (t .rows))) ≡ elem (leaves rs) (clustersOf rs)
-      listed = ap₂ elem leaf-set-is clusters-are
+      listed = ap₂ elem leaf-set-is clusters-built
 
       to : leafRow t < t .rows → Mem (leaves rs) (clustersOf rs)
       to h = elem→ (leaves rs) (clustersOf rs) (subst T (sym is ∙ listed) (lt→ltb (leafRow t) (t .rows) h))
