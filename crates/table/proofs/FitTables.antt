@@ -1,6 +1,8 @@
 -- Which tables are fit: a built table, and a fit table rescored (document 01, "The table").
---     FitRows, table-fit     the table of fit rows is fit
---     Rows, again-table-fit  so is that of rows worked out again
+--     InTable d es P         es may be the rows of a table with the degree bound d, and P holds of each
+--     carried                so may rows with the same clusters
+--     table-fit              the table of fit rows is fit
+--     again-table-fit        so is that of rows worked out again
 --     rescored-fit           a fit table, rescored, is fit
 --     Accepted, built-fit    a built table is fit (`Accepted` is passed on from `Laws/Build.antt`)
 -- Assumes nothing.
@@ -30,22 +32,45 @@ use Rattle.table.specs.View.{rowCap, entryAt, entriesOf, tableOf}
 use Rattle.table.specs.Arranged.{unworked}
 use Rattle.table.specs.Fit.{keepsRules, fitEntry, isFit}
 use Rattle.table.specs.Rescore.{isScore, newTable}
-use Rattle.table.proofs.AgainFit.{again-length, again-clusters, Listed, again-fit}
+use Rattle.table.proofs.AgainFit.{again-clusters, Listed, again-fit}
 pub use Rattle.table.proofs.Laws.Build.{Accepted}
 use Rattle.table.proofs.Laws.Build.{unworked-clusters, again-built}
 use Rattle.table.proofs.Laws.Column.{entries-length, mem-entries}
 use Rattle.table.proofs.Laws.Fit.{recordIn, rules→, →rules, fit-rules, isFit→, →isFit, fit-falls, fit-each, entries-rising}
 use Rattle.table.proofs.Laws.View.{entries-table, table-past, blank→empty}
 
--- ---- the table of fit rows
+-- ---- rows that may be made a table of
 
-pub record FitRows (d : ℕ) (es : List (Entry Result)) : Type 0 where
+pub record InTable (d : ℕ) (es : List (Entry Result)) (P : Entry Result → Type 0) : Type 0 where
   pub low : degreeLow ≤ d
   pub high : d ≤ degreeHigh
   pub some : 1 ≤ length es
   pub capped : length es ≤ rowCap
   pub falls : Falling (map cl es)
-  pub fit : (e : Entry Result) → Mem e es → T (fitEntry narrow (map cl es) e)
+  pub each : (e : Entry Result) → Mem e es → P e
+
+abbrev pub FitRows : ℕ → List (Entry Result) → Type 0
+FitRows d es = InTable d es (λ (e : Entry Result). T (fitEntry narrow (map cl es) e))
+
+-- in their order, by the record rules
+abbrev pub Rows : ℕ → List (Entry Result) → Type 0
+Rows d es = InTable d es (λ (e : Entry Result). T (keepsRules narrow (e .row)))
+
+carried : (d : ℕ) (es xs : List (Entry Result)) (P Q : Entry Result → Type 0) → map cl xs ≡ map cl es → InTable d es P
+    → ((x : Entry Result) → Mem x xs → Q x) → InTable d xs Q
+carried d es xs P Q same k f = record {
+  low = k .low;
+  high = k .high;
+  some = omega (arith, count, k .some);
+  capped = omega (arith, count, k .capped);
+  falls = rw same (k .falls);
+  each = f;
+}
+  where
+    count : length xs ≡ length es
+    count = sym (length-map xs cl) ∙ ap (λ (cs : List ℕ). length cs) same ∙ length-map es cl
+
+-- ---- the table of fit rows
 
 pub table-fit : (d : ℕ) (es : List (Entry Result)) → FitRows d es → T (isFit (tableOf d es))
 table-fit d es f = →isFit t (record {
@@ -55,7 +80,7 @@ table-fit d es f = →isFit t (record {
   capped = f .capped;
   rising = entries-rising t (rw (entries-table d es) (f .falls));
   fit = λ i l. rw (entries-table d es)
-      (f .fit (entryAt t i) (subst (Mem (entryAt t i)) (entries-table d es) (mem-entries t (length es) i l)));
+      (f .each (entryAt t i) (subst (Mem (entryAt t i)) (entries-table d es) (mem-entries t (length es) i l)));
   blank = λ i l m. blank→empty t i (table-past d es i l);
 })
   where
@@ -64,36 +89,20 @@ table-fit d es f = →isFit t (record {
 
 -- ---- rows worked out again
 
--- rows that may be made a table of: in their order, by the record rules
-pub record Rows (d : ℕ) (es : List (Entry Result)) : Type 0 where
-  pub low : degreeLow ≤ d
-  pub high : d ≤ degreeHigh
-  pub some : 1 ≤ length es
-  pub capped : length es ≤ rowCap
-  pub falls : Falling (map cl es)
-  pub rules : (e : Entry Result) → Mem e es → T (keepsRules narrow (e .row))
-
 nonzero-rows : (d : ℕ) (es : List (Entry Result)) → Rows d es → (c : ℕ) → Mem c (map cl es) → c ≢ 0
 nonzero-rows d es k c m z =
     let q = Memᴰ·of-map cl es m in
-    rules→ narrow (q .0 .row) (k .rules (q .0) (q .1)) .1 .has-taxon (q .2 ∙ z)
+    rules→ narrow (q .0 .row) (k .each (q .0) (q .1)) .1 .has-taxon (q .2 ∙ z)
 
 module _ (d c : ℕ) (es : List (Entry Result)) (k : Rows d es) where
   abbrev F : Row → List (Entry Result) → Result
   F = workedOut narrow d (map cl es)
 
   again-rows : ((e : Entry Result) → Mem e es → (T (inside c (cl e)) → ⊥) → T (fitEntry narrow (map cl es) e)) → FitRows d (again F c es)
-  again-rows f = record {
-    low = k .low;
-    high = k .high;
-    some = subst (λ (n : ℕ). 1 ≤ n) (sym (again-length F c es)) (k .some);
-    capped = subst (λ (n : ℕ). n ≤ rowCap) (sym (again-length F c es)) (k .capped);
-    falls = subst Falling (sym (again-clusters F c es)) (k .falls);
-    fit = subst (λ (cs : List ℕ). (e : Entry Result) → Mem e (again F c es) → T (fitEntry narrow cs e)) (sym (again-clusters F c es)) each;
-  }
+  again-rows f = carried d es (again F c es) _ _ (again-clusters F c es) k (λ e m. rw (again-clusters F c es) (each e m))
     where
       listed : Listed narrow (map cl es) es
-      listed = record { falls = k .falls; listed = λ e m. Memᴰ·map cl m; rules = k .rules }
+      listed = record { falls = k .falls; listed = λ e m. Memᴰ·map cl m; rules = k .each }
 
       each : (e : Entry Result) → Mem e (again F c es) → T (fitEntry narrow (map cl es) e)
       each =
@@ -135,17 +144,10 @@ module _ (c : ℕ) (z : ℤ) (s : ℕ) (score : T (isScore z s)) where
 
   module _ (d : ℕ) (es : List (Entry Result)) (k : FitRows d es) where
     pub put-rows : Rows d (map withScore es)
-    put-rows = record {
-      low = k .low;
-      high = k .high;
-      some = subst (λ (n : ℕ). 1 ≤ n) (sym (length-map es withScore)) (k .some);
-      capped = subst (λ (n : ℕ). n ≤ rowCap) (sym (length-map es withScore)) (k .capped);
-      falls = subst Falling (sym (put-clusters es)) (k .falls);
-      rules = λ x m.
-          let q = Memᴰ·of-map withScore es m in
-          subst (λ (e : Entry Result). T (keepsRules narrow (e .row))) (q .2)
-          (put-rules (q .0 .row) (fit-rules narrow (map cl es) (q .0) (k .fit (q .0) (q .1))));
-    }
+    put-rows = carried d es (map withScore es) _ _ (put-clusters es) k (λ x m.
+        let q = Memᴰ·of-map withScore es m in
+        subst (λ (e : Entry Result). T (keepsRules narrow (e .row))) (q .2)
+        (put-rules (q .0 .row) (fit-rules narrow (map cl es) (q .0) (k .each (q .0) (q .1)))))
 
     -- the rows that don't contain c stay
     pub put-fit : (x : Entry Result) → Mem x (map withScore es) → (T (inside c (cl x)) → ⊥)
@@ -156,7 +158,7 @@ module _ (c : ℕ) (z : ℤ) (s : ℕ) (score : T (isScore z s)) where
         let out : T (inside c (cl (q .0))) → ⊥ = λ t. n (subst (λ (y : ℕ). T (inside c y)) at t) in
         let same : q .0 ≡ x = ap (λ (r : Row). record { row = r; val = q .0 .val }) (sym (put-other c z s (q .0 .row) out)) ∙ q .2 in
         subst (λ (cs : List ℕ). T (fitEntry narrow cs x)) (sym (put-clusters es))
-        (subst (λ (e : Entry Result). T (fitEntry narrow (map cl es) e)) same (k .fit (q .0) (q .1)))
+        (subst (λ (e : Entry Result). T (fitEntry narrow (map cl es) e)) same (k .each (q .0) (q .1)))
 
     put-table-fit : T (isFit (tableOf d (rescored narrow d (map cl es) c z s es)))
     put-table-fit =
@@ -170,10 +172,10 @@ fit-rows t h =
     record {
       low = f .low;
       high = f .high;
-      some = subst (λ (n : ℕ). 1 ≤ n) (sym n) (f .some);
-      capped = subst (λ (n : ℕ). n ≤ rowCap) (sym n) (f .capped);
+      some = omega (arith, n, f .some);
+      capped = omega (arith, n, f .capped);
       falls = fit-falls t f;
-      fit = fit-each t f;
+      each = fit-each t f;
     }
 
 pub rescored-fit : (t : Table) (c : ℕ) (z : ℤ) (s : ℕ) → T (isFit t) → T (isScore z s) → T (isFit (newTable t c z s))
@@ -186,10 +188,10 @@ module _ (d : ℕ) (rs : List Row) (k : Accepted d rs) where
   accepted-rows = record {
     low = k .low;
     high = k .high;
-    some = subst (λ (n : ℕ). 1 ≤ n) (sym (length-map rs unworked)) (k .some);
-    capped = subst (λ (n : ℕ). n ≤ rowCap) (sym (length-map rs unworked)) (k .capped);
-    falls = subst Falling (sym (unworked-clusters rs)) (k .facts .falls);
-    rules = λ e m. let q = Memᴰ·of-map unworked rs m in
+    some = omega (arith, length-map rs unworked, k .some);
+    capped = omega (arith, length-map rs unworked, k .capped);
+    falls = rw (unworked-clusters rs) (k .facts .falls);
+    each = λ e m. let q = Memᴰ·of-map unworked rs m in
         subst (λ (x : Entry Result). T (keepsRules narrow (x .row))) (q .2) (k .rules (q .0) (q .1));
   }
 
