@@ -19,12 +19,12 @@ use Rattle.laws.proofs.Keep.{mem-bind, mem-of-bind}
 use Rattle.laws.proofs.Once.{once-bind}
 use Rattle.laws.proofs.Digits.{has-lt, has-pow}
 use Rattle.laws.proofs.Cluster.{inside-refl, inside-trans, inside-antisym, strict→, →strict, zero-of-apart, apart-of-inside}
-use Rattle.laws.proofs.Taxa.{single→, inside-single, size-pos}
+use Rattle.laws.proofs.Taxa.{single→, inside-single, size-pos, size-lt}
 use Rattle.laws.proofs.Lowest.{lowest-taxon}
 use Rattle.drawing.specs.Shape.{Shape, taxon, vertex, topOf, topsOf, clustersOf, clustersIn, smallest, ascends, isOrdered, areOrdered}
 use Rattle.drawing.specs.Drawn.{childrenInOrder, shapesBy, shapeOf}
 use Rattle.drawing.proofs.Sorted.{rising-map}
-use Rattle.drawing.proofs.Nests.{Nests, Child, child-over, children-apart, size-lt}
+use Rattle.drawing.proofs.Nests.{Nests, Child, child-over, children-apart}
 use Rattle.drawing.proofs.Parts.{in-order→, →in-order, order-rising, order-once, order-union, order-two}
 
 pub record Draws (xs : List ℕ) (C : ℕ) (s : Shape) : Type 0 where
@@ -56,9 +56,7 @@ module _ (xs : List ℕ) (N : Nests xs) (C : ℕ) (m : Mem C xs) where
   -- ---- one taxon
   module _ (one : T (single C)) where
     only : (c : ℕ) → Mem c xs → T (inside c C) → c ≡ C
-    only c k i =
-        let q = single→ C one in
-        inside-single (q .0) c (N .nonzero c k) (subst (λ (x : ℕ). T (inside c x)) (q .1) i) ∙ sym (q .1)
+    only c k i = inside-single c C one (N .nonzero c k) i
 
     taxon-top : 2 ^ smallest C ≡ C
     taxon-top =

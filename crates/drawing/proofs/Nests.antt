@@ -6,7 +6,6 @@
 --     children-apart        two children are apart
 --     taxon-strict          a single taxon lies strictly inside C, where C isn't one itself
 --     children-union, children-two     the children make up C, and are two at least
---     size-lt               a cluster strictly inside another has fewer taxa
 -- Assumes nothing.
 use mathlib.Core.Path.{_≡_, sym, subst}
 use mathlib.Core.Logic.{_≢_}
@@ -18,16 +17,17 @@ use native.Mathlib.Decide.{ℕ-discrete, decLe}
 use native.Mathlib.Omega.{arith}
 use lib.Dec.{T, T-not, not-T}
 use lib.ListN.{length}
-use Rattle.laws.specs.Cluster.{inside, strict, apart, nested, single, size, unionOf}
+use Rattle.laws.specs.Cluster.{inside, strict, apart, nested, single, unionOf}
 use Rattle.laws.specs.Lists.{keep, some, Once}
 use Rattle.laws.proofs.Tests.{T-and, and-T}
 use Rattle.laws.proofs.Keep.{mem-keep, mem-of-keep, some→, →some}
 use Rattle.laws.proofs.Cluster.{inside-refl, inside-trans, inside-antisym, le-of-inside, has-of-inside, inside-of-taxa, apart→}
 use Rattle.laws.proofs.Cluster.{strict→, →strict, Nest, below, above, away, nested→, inside-unionOf, unionOf-inside, two-parts}
-use Rattle.laws.proofs.Taxa.{→single, size-pos, size-part}
+use Rattle.laws.proofs.Taxa.{→single}
 use Rattle.laws.proofs.Lowest.{lowest-in}
 use Rattle.trees.specs.Heaviest.{largest}
 use Rattle.trees.specs.Tree.{children}
+use Rattle.trees.proofs.TieRule.{largest-le}
 use Rattle.drawing.specs.Shape.{smallest}
 use Rattle.drawing.specs.Parts.{childWith}
 
@@ -37,12 +37,6 @@ pub record Nests (xs : List ℕ) : Type 0 where
   pub small : (c : ℕ) → Mem c xs → c < 2 ^ 64
   pub nest : (a b : ℕ) → Mem a xs → Mem b xs → T (nested a b)
   pub leaves : (c t : ℕ) → Mem c xs → T (inside (2 ^ t) c) → Mem (2 ^ t) xs
-
-pub size-lt : (a b : ℕ) → T (strict a b) → size a < size b
-size-lt a b h =
-    let q = strict→ a b h in
-    let n : b - a ≢ 0 = λ e. q .1 (omega (arith, le-of-inside a b (q .0))) in
-    omega (arith, size-part a b (q .0), size-pos (b - a) n)
 
 -- ---- the largest of some clusters
 
@@ -60,10 +54,6 @@ largest-mem c (x ∷ cs) = max-mem c (largest (x ∷ cs)) (x ∷ cs) (there (lar
 largest-of : (l : List ℕ) (x : ℕ) → Mem x l → Mem (largest l) l
 largest-of [] x m = absurd (mem-nil m)
 largest-of (c ∷ cs) x m = largest-mem c cs
-
-largest-le : (l : List ℕ) (x : ℕ) → Mem x l → x ≤ largest l
-largest-le (c ∷ cs) x (here e) = omega arith
-largest-le (c ∷ cs) x (there m) = omega (arith, largest-le cs x m)
 
 -- ---- children
 

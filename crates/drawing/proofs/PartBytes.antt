@@ -12,13 +12,13 @@ use native.Mathlib.Omega.{arith}
 use lib.Dec.{T}
 use Rattle.laws.specs.Cluster.{single, size}
 use Rattle.laws.proofs.Tests.{T-true, T-false}
-use Rattle.laws.proofs.Taxa.{size-pos}
+use Rattle.laws.proofs.Taxa.{size-pos, size-lt}
 use Rattle.drawing.specs.Decimal.{decimal}
 use Rattle.drawing.specs.Shape.{Shape, taxon, vertex, smallest}
 use Rattle.drawing.specs.Text.{opening, closing, withCommas, print, printEach}
 use Rattle.drawing.specs.Drawn.{childrenInOrder, shapesBy, shapeOf}
 use Rattle.drawing.specs.Parts.{partBytes}
-use Rattle.drawing.proofs.Nests.{Nests, size-lt}
+use Rattle.drawing.proofs.Nests.{Nests}
 use Rattle.drawing.proofs.Parts.{in-order→}
 use Rattle.drawing.proofs.Drawn.{Draws, shape-draws}
 use Rattle.drawing.proofs.Only.{ordered-only}

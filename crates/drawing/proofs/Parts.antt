@@ -23,9 +23,8 @@ use Rattle.laws.specs.Lists.{keepIf, keep, Once}
 use Rattle.laws.proofs.Tests.{T-true, T-false, eq→eqb}
 use Rattle.laws.proofs.Keep.{mem-keep, mem-of-keep, keep-none, keep-all}
 use Rattle.laws.proofs.Once.{once-keep}
-use Rattle.laws.proofs.Digits.{Has, or-has}
-use Rattle.laws.proofs.Cluster.{inside→, →inside, inside-refl, inside-trans, le-of-inside, zero-of-inside, has-of-inside, apart→}
-use Rattle.laws.proofs.Cluster.{apart-of-inside, strict→, rest-apart, rest-inside, union-rest}
+use Rattle.laws.proofs.Cluster.{inside-refl, inside-trans, le-of-inside, zero-of-inside, has-of-inside, apart→}
+use Rattle.laws.proofs.Cluster.{apart-of-inside, strict→, rest-apart, rest-inside, inside-rest}
 use Rattle.laws.proofs.Taxa.{size-pos, size-part}
 use Rattle.laws.proofs.Lowest.{lowest-in, lowest-le, lowest-lt, lowest-mono, lowest-apart}
 use Rattle.trees.specs.Tree.{children}
@@ -45,13 +44,6 @@ rising-keep key p (c ∷ cs) r = go (p c) (rising-keep key p cs (r .1))
     go : (b : Bool) → Rising key (keep p cs) → Rising key (keepIf b c (keep p cs))
     go true h = ((λ x m. r .0 x (mem-of-keep p cs m .0)), h)
     go false h = h
-
-inside-less : (c k R : ℕ) → T (inside c R) → T (inside k R) → T (apart c k) → T (inside c (R - k))
-inside-less c k R h i a = →inside c (R - k) (λ t x. go t x (or-has k (R - k) t (rw (union-rest k R i) (inside→ c R h t x))))
-  where
-    go : (t : ℕ) → Has c t → Has k t ⊎ Has (R - k) t → Has (R - k) t
-    go t x (inl y) = absurd (apart→ c k a t x y)
-    go t x (inr y) = y
 
 -- ---- in order
 
@@ -153,7 +145,7 @@ module _ (xs : List ℕ) (N : Nests xs) (C : ℕ) where
           go : (c : ℕ) → Child xs C c → Dec (c ≡ next) → T (inside c left) ⊎ T (apart c left)
               → T (inside c (left - next)) ⊎ T (apart c (left - next))
           go c k (yes e) h = inr (subst (λ (x : ℕ). T (apart x (left - next))) (sym e) (rest-apart next left next-inside))
-          go c k (no d) (inl i) = inl (inside-less c next left i next-inside (children-apart xs N C c next k next-child d))
+          go c k (no d) (inl i) = inl (inside-rest c next left i next-inside (children-apart xs N C c next k next-child d))
           go c k (no d) (inr a) = inr (apart-of-inside c left c (left - next) a (inside-refl c) inner)
 
       -- ---- it comes first of those left
@@ -190,7 +182,7 @@ module _ (xs : List ℕ) (N : Nests xs) (C : ℕ) where
               go (yes e) = here e
               go (no d) =
                   let a = children-apart xs N C c next (in-order→ c (q .0)) next-child d in
-                  there (mem-keep (λ (x : ℕ). inside x (left - next)) order (q .0) (inside-less c next left (q .1) next-inside a))
+                  there (mem-keep (λ (x : ℕ). inside x (left - next)) order (q .0) (inside-rest c next left (q .1) next-inside a))
 
           from : (c : ℕ) → Mem c (next ∷ partsIn (left - next)) → Mem c (partsIn left)
           from c (here e) = Memᴰ·cast e (mem-keep (λ (x : ℕ). inside x left) order (→in-order next next-child) next-inside)

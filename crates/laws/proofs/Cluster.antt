@@ -9,7 +9,7 @@
 --     apart-of-inside, apart-union           parts of what is apart are apart, and so is a union of such
 --     inside-union-l, inside-union-r, union-inside, taxon-of-union     into a union, out of it, and a union inside
 --     union-apart, union-lt                  a union of what is apart is the sum; below e, if both are below e and apart from it
---     rest-apart, rest-inside, union-rest, rest-union      R less a part of it, and a union less one of the two
+--     rest-apart, rest-inside, inside-rest, union-rest, rest-union      R less a part of it, and a union less one of the two
 --     strict→, →strict, Nest, nested→, →nested      strictly inside, and nested or apart, out of the test and into it
 --     apart-unionOf, inside-unionOf, unionOf-inside, taxon-of-unionOf, unionOf-lt      the same of unions of lists
 --     two-parts                              a union of clusters other than the union has two at least
@@ -145,6 +145,14 @@ union-lt =
 
 pub rest-inside : (c R : ℕ) → T (inside c R) → T (inside (R - c) R)
 rest-inside c R h = subst (λ (x : ℕ). T (inside (R - c) x)) (union-rest c R h) (inside-union-r c (R - c))
+
+-- what is inside R and apart from a part of it
+pub inside-rest : (a c R : ℕ) → T (inside a R) → T (inside c R) → T (apart a c) → T (inside a (R - c))
+inside-rest a c R h i k = →inside a (R - c) (λ t x. go t x (or-has c (R - c) t (rw (union-rest c R i) (inside→ a R h t x))))
+  where
+    go : (t : ℕ) → Has a t → Has c t ⊎ Has (R - c) t → Has (R - c) t
+    go t x (inl y) = absurd (apart→ a c k t x y)
+    go t x (inr y) = y
 
 pub rest-union : (a b : ℕ) → T (apart a b) → bitOr a b - a ≡ b
 rest-union a b h = omega (arith, union-apart a b h)

@@ -4,8 +4,8 @@
 --     Laminar L C S      the family S of clusters of L inside C nests
 --     laminar-le         it measures at most M (2 size C - 1), by any measure
 -- Assumes nothing.
-use mathlib.Core.Path.{_≡_, sym, ap, subst}
-use mathlib.Core.Logic.{_⊎_, inl, inr, _≢_}
+use mathlib.Core.Path.{_≡_, ap, subst}
+use mathlib.Core.Logic.{_≢_}
 use mathlib.Core.Bool.{Bool, not, _&&_}
 use mathlib.Core.List.{List, [], _∷_}
 use mathlib.Core.List.{List·Memᴰ as Mem, List·Memᴰ·head as here}
@@ -14,15 +14,14 @@ use native.Mathlib.Nat.{le-antisymm, le-refl, mul-add, mul-le-mul-left}
 use native.Mathlib.Omega.{arith}
 use lib.Dec.{T, eqb, eqb→eq, T-not}
 use lib.ListN.{length}
-use Rattle.laws.specs.Cluster.{inside, apart, nested, size}
+use Rattle.laws.specs.Cluster.{inside, nested, size}
 use Rattle.laws.specs.Lists.{keep, Once}
 use Rattle.laws.proofs.Tests.{T-and, neq→}
-use Rattle.laws.proofs.Digits.{Has, or-has}
 use Rattle.laws.proofs.Keep.{mem-of-keep, keep-none}
 use Rattle.laws.proofs.Largest.{Top, none, at, top}
 use Rattle.laws.proofs.KeepCount.{length-keep-split}
 use Rattle.laws.proofs.Once.{once-keep, once-length-le}
-use Rattle.laws.proofs.Cluster.{inside→, →inside, apart→, le-of-inside, inside-refl, union-rest}
+use Rattle.laws.proofs.Cluster.{le-of-inside, inside-refl, inside-rest}
 use Rattle.laws.proofs.Cluster.{Nest, below, above, away, nested→}
 use Rattle.laws.proofs.Taxa.{size-pos, size-part}
 
@@ -54,14 +53,6 @@ laminar-part L C D S U l f = record {
   within = λ c u. f c u .1;
   nest = λ a b u v. l .nest a b (f a u .0) (f b v .0);
 }
-
-inside-rest : (c k C : ℕ) → T (inside c C) → T (inside k C) → T (apart c k) → T (inside c (C - k))
-inside-rest c k C h i a =
-    →inside c (C - k) (λ t x. go t x (or-has k (C - k) t (subst (λ (z : ℕ). Has z t) (sym (union-rest k C i)) (inside→ c C h t x))))
-  where
-    go : (t : ℕ) → Has c t → Has k t ⊎ Has (C - k) t → Has (C - k) t
-    go t x (inl y) = absurd (apart→ c k a t x y)
-    go t x (inr y) = y
 
 module _ (L : List ℕ) (μ : (ℕ → Bool) → ℕ) (M : ℕ) (measure : Measure μ M) where
   abbrev Small : ℕ → Type 0

@@ -1,7 +1,7 @@
 -- The number of taxa of a cluster, one-taxon clusters, and the highest taxon.
 --     taxa-mem, mem-taxa        the one-taxon clusters of a width
 --     size-taxon, size-pos      one taxon has size 1, and what isn't nothing has 1 at least
---     size-part, size-le, size-union     a part and the rest, a part, and two that are apart
+--     size-part, size-lt, size-union     a part and the rest, a part that isn't all, and two that are apart
 --     single→, →single          exactly one taxon: a power of two
 --     inside-single             what lies inside a one-taxon cluster is that cluster
 --     highest-le, highest-gt    2 ^ highest c is the largest power of two that c reaches
@@ -19,9 +19,9 @@ use lib.Bits.{bitAnd, bitOr, and-step, and-le-r}
 use lib.Count.{ones, onesIn, ones-step}
 use lib.Dec.{T, eqb→eq, lit<}
 use lib.Pow.{pow-pos, pow-mono}
-use Rattle.laws.specs.Cluster.{inside, apart, size, single, taxa, halvings, highest}
+use Rattle.laws.specs.Cluster.{inside, strict, apart, size, single, taxa, halvings, highest}
 use Rattle.laws.proofs.Tests.{eq→eqb}
-use Rattle.laws.proofs.Cluster.{inside→, inside-antisym, le-of-inside, inside-of-has, inside-union-l, rest-union}
+use Rattle.laws.proofs.Cluster.{inside→, inside-antisym, le-of-inside, inside-of-has, inside-union-l, rest-union, strict→}
 use Rattle.laws.proofs.Digits.{Has, has-of-nonzero, pow-has}
 
 -- ---- the one-taxon clusters of a width
@@ -91,14 +91,19 @@ unfolding single
 →single t = eq→eqb (size (2 ^ t)) 1 (size-taxon t)
 
 -- a one-taxon cluster has nothing inside it but itself
-pub inside-single : (t a : ℕ) → a ≢ 0 → T (inside a (2 ^ t)) → a ≡ 2 ^ t
-inside-single t a n h = inside-antisym a (2 ^ t) h (inside-of-has t a (go (has-of-nonzero (suc t) a lt n)))
+inside-taxon : (t a : ℕ) → a ≢ 0 → T (inside a (2 ^ t)) → a ≡ 2 ^ t
+inside-taxon t a n h = inside-antisym a (2 ^ t) h (inside-of-has t a (go (has-of-nonzero (suc t) a lt n)))
   where
     lt : a < 2 ^ suc t
     lt = omega (arith, le-of-inside a (2 ^ t) h, pow-pos t)
 
     go : (s : ℕ) × (s < suc t) × Has a s → Has a t
     go p = subst (Has a) (pow-has t (p .0) (inside→ a (2 ^ t) h (p .0) (p .2))) (p .2)
+
+pub inside-single : (a c : ℕ) → T (single c) → a ≢ 0 → T (inside a c) → a ≡ c
+inside-single a c s n h =
+    let q = single→ c s in
+    inside-taxon (q .0) a n (subst (λ (x : ℕ). T (inside a x)) (q .1) h) ∙ sym (q .1)
 
 -- ---- a part of a cluster, and the rest
 
@@ -130,8 +135,11 @@ pub size-part : (a b : ℕ) → T (inside a b) → size a + size (b - a) ≡ siz
 unfolding inside
 size-part a b h = size-rest a b (eqb→eq (bitAnd a b) a h)
 
-pub size-le : (a b : ℕ) → T (inside a b) → size a ≤ size b
-size-le a b h = omega (arith, size-part a b h)
+pub size-lt : (a b : ℕ) → T (strict a b) → size a < size b
+size-lt a b h =
+    let q = strict→ a b h in
+    let n : b - a ≢ 0 = λ e. q .1 (omega (arith, le-of-inside a b (q .0))) in
+    omega (arith, size-part a b (q .0), size-pos (b - a) n)
 
 pub size-union : (a b : ℕ) → T (apart a b) → size (bitOr a b) ≡ size a + size b
 size-union a b h =

@@ -11,7 +11,7 @@ use lib.ListN.{length}
 use Rattle.laws.specs.Cluster.{inside, single}
 use Rattle.laws.proofs.Tests.{or-l, eq→eqb}
 use Rattle.laws.proofs.Cluster.{inside-refl, taxon-nonzero, below, →nested}
-use Rattle.laws.proofs.Taxa.{single→, inside-single}
+use Rattle.laws.proofs.Taxa.{inside-single}
 use Rattle.trees.proofs.Families.{Fam, fam-ext, one}
 use Rattle.trees.proofs.TreeFacts.{Given, Tree, kids}
 use Rattle.trees.proofs.Cuts.{Right}
@@ -19,9 +19,7 @@ use Rattle.trees.proofs.Cuts.{Right}
 module _ (G : Given) (C : ℕ) (listed : Mem C (G .listed)) (one-taxon : T (single C)) where
   -- nothing but C lies inside C
   inside-only : (c : ℕ) → c ≢ 0 → T (inside c C) → c ≡ C
-  inside-only c n h =
-      let q = single→ C one-taxon in
-      inside-single (q .0) c n (subst (λ (x : ℕ). T (inside c x)) (q .1) h) ∙ sym (q .1)
+  inside-only c n h = inside-single c C one-taxon n h
 
   single-tree : Tree G C (one C)
   single-tree = record {

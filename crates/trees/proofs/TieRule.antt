@@ -1,5 +1,6 @@
 -- The tie rule is the order of the marks as numbers: the largest cluster that is in one of two sets only is the highest digit in which
 -- their marks differ.
+--     largest-le               no cluster of a list is larger than the largest
 --     tie-is-marks             the tie rule on two sets that tests keep
 --     tie-is-order             the same on sublists of the clusters
 --     tie-irrefl, tie-trans, tie-total     a strict order; of two different sublists one comes first
@@ -26,7 +27,7 @@ use Rattle.trees.proofs.Marks.{marks-lt, marks-ext, marksOf-inj}
 
 -- ---- the largest of some clusters
 
-largest-le : (l : List ℕ) (x : ℕ) → Mem x l → x ≤ largest l
+pub largest-le : (l : List ℕ) (x : ℕ) → Mem x l → x ≤ largest l
 largest-le (c ∷ cs) x (here e) = rw e (le-max-left c (largest cs))
 largest-le (c ∷ cs) x (there m) = omega (arith, largest-le cs x m, le-max-right c (largest cs))
 
