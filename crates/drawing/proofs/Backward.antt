@@ -1,67 +1,24 @@
 -- A list of clusters backward has the same trees, shapes and texts: only which clusters are members plays a part.
---     every-reverse, some-reverse, keep-reverse     tests and filters of a list backward
 --     children-reverse      the children of a member
 --     isTree-reverse        the test of a tree
 --     on-reverse            the facts of a tree
 --     text-reverse          the text of a tree
---     falling-keep          what a filter leaves of a list that falls
 -- Assumes nothing.
-use mathlib.Core.Path.{_≡_, refl, sym, ap, _∙_}
-use mathlib.Core.Bool.{Bool, true, false, not, _&&_, _||_}
-use mathlib.Core.List.{List, [], _∷_, _++_, reverse, reverse-cons, append-nil}
+use mathlib.Core.Path.{_≡_, ap, _∙_}
+use mathlib.Core.Bool.{Bool, not, _&&_, _||_}
+use mathlib.Core.List.{List, reverse}
 use Prim.Native.Nat.{ℕ, _-_}
-use lib.Dec.{T, eqb, leb}
+use lib.Dec.{eqb, leb}
 use lib.ListN.{length, length-reverse}
 use Rattle.laws.specs.Cluster.{inside, strict, nested, single, size, taxa}
-use Rattle.laws.specs.Lists.{keepIf, keep, every, some}
-use Rattle.laws.proofs.Appended.{mem-reverse, mem-of-reverse, once-reverse}
-use Rattle.laws.proofs.Falling.{Falling}
-use Rattle.laws.proofs.Keep.{mem-of-keep, every→, →every, some→, →some, keep-append}
-use Rattle.laws.proofs.Tests.{bool-ext}
+use Rattle.laws.specs.Lists.{keep, every, some}
+use Rattle.laws.proofs.Appended.{mem-reverse, mem-of-reverse, once-reverse, every-reverse, some-reverse, keep-reverse}
 use Rattle.trees.specs.Tree.{children, isTree}
 use Rattle.drawing.specs.Shape.{clustersOf}
 use Rattle.drawing.specs.Text.{textBytes}
 use Rattle.drawing.specs.Drawn.{shapeOf, textOf}
 use Rattle.drawing.proofs.Only.{Same}
 use Rattle.drawing.proofs.Theorems.{TreeOn, shape-ordered, shape-clusters, shape-once, shape-only}
-
--- ---- tests and filters
-
-module _ {A : Type 0} (p : A → Bool) (l : List A) where
-  pub every-reverse : every p (reverse l) ≡ every p l
-  every-reverse =
-      bool-ext (every p (reverse l)) (every p l) (λ h. →every p l (λ x m. every→ p (reverse l) h x (mem-reverse l m)))
-      (λ h. →every p (reverse l) (λ x m. every→ p l h x (mem-of-reverse l m)))
-
-  pub some-reverse : some p (reverse l) ≡ some p l
-  some-reverse = bool-ext (some p (reverse l)) (some p l) to from
-    where
-      to : T (some p (reverse l)) → T (some p l)
-      to h = let q = some→ p (reverse l) h in →some p l (mem-of-reverse l (q .1)) (q .2)
-
-      from : T (some p l) → T (some p (reverse l))
-      from h = let q = some→ p l h in →some p (reverse l) (mem-reverse l (q .1)) (q .2)
-
-module _ {A : Type 0} (p : A → Bool) where
-  pub keep-reverse : (l : List A) → keep p (reverse l) ≡ reverse (keep p l)
-  keep-reverse [] = refl
-  keep-reverse (x ∷ xs) =
-      ap (keep p) (reverse-cons x xs)
-      ∙ keep-append p (reverse xs) (x ∷ [])
-      ∙ ap (λ (r : List A). r ++ keep p (x ∷ [])) (keep-reverse xs)
-      ∙ last (p x)
-    where
-      last : (b : Bool) → reverse (keep p xs) ++ keepIf b x [] ≡ reverse (keepIf b x (keep p xs))
-      last true = sym (reverse-cons x (keep p xs))
-      last false = append-nil (reverse (keep p xs))
-
-pub falling-keep : (p : ℕ → Bool) (l : List ℕ) → Falling l → Falling (keep p l)
-falling-keep p [] f = tt
-falling-keep p (c ∷ cs) f = go (p c) (falling-keep p cs (f .1))
-  where
-    go : (b : Bool) → Falling (keep p cs) → Falling (keepIf b c (keep p cs))
-    go true h = ((λ x m. f .0 x (mem-of-keep p cs m .0)), h)
-    go false h = h
 
 -- ---- the test of a tree
 

@@ -20,7 +20,7 @@ use lib.ListN.{getD}
 use lib.Signed.{ltZ}
 use Rattle.laws.specs.Limits.{narrow}
 use Rattle.laws.specs.Lists.{keep, elem, sublists}
-use Rattle.laws.proofs.Falling.{Falling, falling-once, sublist-is-elem}
+use Rattle.laws.proofs.Falling.{Falling, in-turn-keep, falling-once, sublist-is-elem}
 use Rattle.laws.proofs.Integers.{ltZ-irrefl}
 use Rattle.laws.proofs.Once.{map-inj}
 use Rattle.laws.proofs.Tests.{and-T, T-true, true-T}
@@ -41,7 +41,7 @@ use Rattle.table.proofs.FitTables.{Accepted}
 use Rattle.drawing.specs.Draw.{leafRow, leafMarks, membersOf, isSame, isDrawable}
 use Rattle.drawing.specs.Drawn.{ascending}
 use Rattle.drawing.specs.Marked.{membersTo, scoredTo, weightTo}
-use Rattle.drawing.proofs.Backward.{falling-keep, isTree-reverse}
+use Rattle.drawing.proofs.Backward.{isTree-reverse}
 use Rattle.drawing.proofs.Sorted.{ascending-is-reverse}
 use Rattle.drawing.proofs.LeafRow.{builtFrom, leaves, treesOf, shown-is, rows-are, clusters-down, rising, row-at}
 use Rattle.drawing.proofs.LeafRow.{leaf-set-is, leaf-result, leaf-listed}
@@ -93,7 +93,7 @@ module _ (d : ℕ) (rs : List Row) (k : Accepted d rs) where
         (sets (narrow .taxa) d rs (k .facts) (leaves rs) xs is-tree)
 
     falls : Falling xs
-    falls = subst Falling (sym kept) (falling-keep isIn (clustersOf rs) (k .facts .falls))
+    falls = subst Falling (sym kept) (in-turn-keep (λ (c x : ℕ). x < c) isIn (clustersOf rs) (k .facts .falls))
 
     pub members-back : membersOf t ≡ reverse xs
     members-back =

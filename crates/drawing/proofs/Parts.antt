@@ -9,7 +9,6 @@
 -- Assumes nothing.
 use mathlib.Core.Path.{_≡_, sym, ap, _∙_, subst}
 use mathlib.Core.Logic.{_⊎_, inl, inr, _≢_}
-use mathlib.Core.Bool.{Bool, true, false}
 use mathlib.Core.List.{List, [], _∷_, Memᴰ·cast}
 use mathlib.Core.List.{List·Memᴰ as Mem, List·Memᴰ·head as here, List·Memᴰ·tail as there}
 use Prim.Native.Nat.{ℕ, zero, suc, _-_, _^_, _≤_, _<_}
@@ -19,7 +18,7 @@ use native.Mathlib.Omega.{arith}
 use lib.Dec.{T, eqb, eqb→eq}
 use lib.ListN.{length}
 use Rattle.laws.specs.Cluster.{inside, apart, single, size, unionOf}
-use Rattle.laws.specs.Lists.{keepIf, keep, Once}
+use Rattle.laws.specs.Lists.{keep, Once}
 use Rattle.laws.proofs.Tests.{T-true, T-false, eq→eqb}
 use Rattle.laws.proofs.Keep.{mem-keep, mem-of-keep, keep-none, keep-all}
 use Rattle.laws.proofs.Once.{once-keep}
@@ -33,17 +32,9 @@ use Rattle.trees.proofs.Tuples.{apart-all}
 use Rattle.drawing.specs.Shape.{smallest}
 use Rattle.drawing.specs.Drawn.{childrenInOrder}
 use Rattle.drawing.specs.Parts.{childWith, partsFrom}
-use Rattle.drawing.proofs.Sorted.{Rising, rising-once, rising-only, mem-sort, mem-of-sort, sort-rising}
+use Rattle.drawing.proofs.Sorted.{Rising, rising-once, rising-only, rising-keep, mem-sort, mem-of-sort, sort-rising}
 use Rattle.drawing.proofs.Nests.{Nests, Child, child→, →child, childWith-child, children-apart}
 use Rattle.drawing.proofs.Nests.{taxon-strict, children-union, children-two}
-
-rising-keep : (key : ℕ → ℕ) (p : ℕ → Bool) (l : List ℕ) → Rising key l → Rising key (keep p l)
-rising-keep key p [] r = tt
-rising-keep key p (c ∷ cs) r = go (p c) (rising-keep key p cs (r .1))
-  where
-    go : (b : Bool) → Rising key (keep p cs) → Rising key (keepIf b c (keep p cs))
-    go true h = ((λ x m. r .0 x (mem-of-keep p cs m .0)), h)
-    go false h = h
 
 -- ---- in order
 

@@ -1,6 +1,7 @@
 -- Lists that rise by a key, and sorting.
 --     Rising key l              each element's key is less than the keys of all that follow
 --     rising-once, rising-only  such a list has no element twice, and its elements decide it
+--     rising-keep               what a filter leaves of it rises
 --     rising-map, map-rising    as a test of the keys, into it and out of it
 --     mem-sort, mem-of-sort     a sorted list has the same elements
 --     sort-rising               it rises where different elements have different keys
@@ -17,22 +18,24 @@ use Prim.Native.Nat.{ℕ, suc, _≤_, _<_}
 use native.Mathlib.Omega.{arith}
 use lib.Dec.{T, ltb, ltb→lt, lt→ltb, nltb→le}
 use lib.ListN.{length}
-use Rattle.laws.specs.Lists.{every, Once}
+use Rattle.laws.specs.Lists.{keep, every, Once}
 use Rattle.laws.proofs.Tests.{T-and, and-T}
 use Rattle.laws.proofs.Keep.{every→, →every}
-use Rattle.laws.proofs.Falling.{Falling, falling-once}
+use Rattle.laws.proofs.Falling.{InTurn, in-turn-keep, Falling, falling-once}
 use Rattle.laws.proofs.Appended.{mem-reverse, mem-of-reverse}
 use Rattle.drawing.specs.Shape.{ascends}
 use Rattle.drawing.specs.Drawn.{insertBy, sortBy, ascending}
 
 abbrev pub Rising : (ℕ → ℕ) → List ℕ → Type 0
-Rising key [] = Unit {0}
-Rising key (c ∷ cs) = ((x : ℕ) → Mem x cs → key c < key x) × Rising key cs
+Rising key = InTurn (λ (c x : ℕ). key c < key x)
 
 module _ (key : ℕ → ℕ) where
   pub rising-once : (l : List ℕ) → Rising key l → Once l
   rising-once [] r = tt
   rising-once (c ∷ cs) r = (λ m. omega (arith, r .0 c m), rising-once cs (r .1))
+
+  pub rising-keep : (p : ℕ → Bool) (l : List ℕ) → Rising key l → Rising key (keep p l)
+  rising-keep p l r = in-turn-keep (λ (c x : ℕ). key c < key x) p l r
 
   pub rising-map : (l : List ℕ) → Rising key l → T (ascends (map key l))
   rising-map [] r = tt

@@ -4,11 +4,16 @@
 --     map-reverse                    the images of a list backward
 --     mem-reverse, mem-of-reverse    it has the same elements
 --     once-reverse                   and none of them twice where the list has none twice
+--     every-reverse, some-reverse, keep-reverse     the same tests pass, and a filter leaves the same backward
 -- Assumes nothing.
 use mathlib.Core.Path.{_≡_, refl, sym, ap, _∙_, subst, fun-ext}
-use mathlib.Core.List.{List, [], _∷_, _++_, map, map-map, append-assoc, reverse, reverseAux, reverse-cons, reverse-reverse}
+use mathlib.Core.Bool.{Bool, true, false}
+use mathlib.Core.List.{List, [], _∷_, _++_, map, map-map, append-assoc, append-nil, reverse, reverseAux, reverse-cons, reverse-reverse}
 use mathlib.Core.List.{List·Memᴰ as Mem, List·Memᴰ·head as here, List·Memᴰ·tail as there, List·Memᴰ·not-nil as mem-nil}
-use Rattle.laws.specs.Lists.{bind, Once}
+use lib.Dec.{T}
+use Rattle.laws.specs.Lists.{keepIf, keep, every, some, bind, Once}
+use Rattle.laws.proofs.Tests.{bool-ext}
+use Rattle.laws.proofs.Keep.{every→, →every, some→, →some, keep-append}
 use Rattle.laws.proofs.Once.{once-append}
 
 module _ {A B C : Type 0} where
@@ -52,3 +57,33 @@ module _ {A : Type 0} where
       apart : (y : A) → Mem y (reverse xs) → Mem y (x ∷ []) → ⊥
       apart y m (here e) = d .0 (subst (λ (z : A). Mem z xs) e (mem-of-reverse xs m))
       apart y m (there k) = mem-nil k
+
+-- ---- tests and filters of a list backward
+
+module _ {A : Type 0} (p : A → Bool) (l : List A) where
+  pub every-reverse : every p (reverse l) ≡ every p l
+  every-reverse =
+      bool-ext (every p (reverse l)) (every p l) (λ h. →every p l (λ x m. every→ p (reverse l) h x (mem-reverse l m)))
+      (λ h. →every p (reverse l) (λ x m. every→ p l h x (mem-of-reverse l m)))
+
+  pub some-reverse : some p (reverse l) ≡ some p l
+  some-reverse = bool-ext (some p (reverse l)) (some p l) to from
+    where
+      to : T (some p (reverse l)) → T (some p l)
+      to h = let q = some→ p (reverse l) h in →some p l (mem-of-reverse l (q .1)) (q .2)
+
+      from : T (some p l) → T (some p (reverse l))
+      from h = let q = some→ p l h in →some p (reverse l) (mem-reverse l (q .1)) (q .2)
+
+module _ {A : Type 0} (p : A → Bool) where
+  pub keep-reverse : (l : List A) → keep p (reverse l) ≡ reverse (keep p l)
+  keep-reverse [] = refl
+  keep-reverse (x ∷ xs) =
+      ap (keep p) (reverse-cons x xs)
+      ∙ keep-append p (reverse xs) (x ∷ [])
+      ∙ ap (λ (r : List A). r ++ keep p (x ∷ [])) (keep-reverse xs)
+      ∙ last (p x)
+    where
+      last : (b : Bool) → reverse (keep p xs) ++ keepIf b x [] ≡ reverse (keepIf b x (keep p xs))
+      last true = sym (reverse-cons x (keep p xs))
+      last false = append-nil (reverse (keep p xs))
