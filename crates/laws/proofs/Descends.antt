@@ -1,7 +1,6 @@
 -- Lists of clusters with the largest first: strictly falling, and none of them 0. The rows of a table stand so.
 --     First, Descends cs   strictly falling, and none is 0
 --     descends-first       the first is larger than every other
---     descends-pos         each is more than 0
 --     descends-map-keep    what a filter leaves falls too
 --     falling-of-descends, descends-of-falling     a list that falls, and has no 0
 --     descends-once        none stands there twice
@@ -25,10 +24,6 @@ pub record First (c : ℕ) (cs : List ℕ) : Type 0 where
 abbrev pub Descends : List ℕ → Type 0
 Descends [] = Unit {0}
 Descends (c ∷ cs) = First c cs × Descends cs
-
-pub descends-pos : (cs : List ℕ) → Descends cs → (c : ℕ) → Mem c cs → 0 < c
-descends-pos (x ∷ xs) h c (here e) = omega (arith, h .0 .nonzero)
-descends-pos (x ∷ xs) h c (there m) = descends-pos xs (h .1) c m
 
 pub falling-of-descends : (cs : List ℕ) → Descends cs → Falling cs
 falling-of-descends [] h = tt

@@ -2,7 +2,7 @@
 -- integers is then a linear statement on naturals, and each law below is one such statement.
 --     up, dn                       the two parts
 --     eq-of-parts, sum-parts, abs-parts       equality, sums and absolute values by parts
---     lt→parts, parts→lt, le→parts, parts→le  the tests `ltZ` and `leZ` by parts, both ways
+--     lt→parts, parts→lt           the test `ltZ` by parts, both ways
 --     ltZ-trans, ltZ-irrefl, ltZ-add, Tri, tri     a strict order that sums keep, any two compared
 --     abs-sum-le, mag-le-abs       absolute values of sums
 --     add-swap                     the first two of three change places
@@ -12,9 +12,9 @@ use mathlib.Core.Bool.{Bool, true, false}
 use Prim.Native.Nat.{ℕ, suc, _+_, _≤_, _<_}
 use native.Mathlib.Decide.{decLe}
 use native.Mathlib.Omega.{arith}
-use lib.Dec.{T, ltb, ltb→lt, lt→ltb, leb→le, le→leb}
+use lib.Dec.{T, ltb, ltb→lt, lt→ltb}
 use lib.IntN.{ℤ, pos, negsuc, natAbs, subℕ, _+ℤ_, +ℤ-comm, +ℤ-assoc}
-use lib.Signed.{mag, leZ, ltZ}
+use lib.Signed.{mag, ltZ}
 use borrow.Author.Tests.{ltb-true, ltb-false}
 
 abbrev pub up : ℤ → ℕ
@@ -74,18 +74,6 @@ parts→lt (pos a) (pos b) h = lt→ltb a b (omega arith)
 parts→lt (pos a) (negsuc b) h = absurd (omega arith)
 parts→lt (negsuc a) (pos b) h = tt
 parts→lt (negsuc a) (negsuc b) h = lt→ltb b a (omega arith)
-
-pub le→parts : (a b : ℤ) → T (leZ a b) → up a + dn b ≤ up b + dn a
-le→parts (pos a) (pos b) h = omega (arith, leb→le a b h)
-le→parts (pos a) (negsuc b) h = absurd h
-le→parts (negsuc a) (pos b) h = omega arith
-le→parts (negsuc a) (negsuc b) h = omega (arith, leb→le b a h)
-
-pub parts→le : (a b : ℤ) → up a + dn b ≤ up b + dn a → T (leZ a b)
-parts→le (pos a) (pos b) h = le→leb a b (omega arith)
-parts→le (pos a) (negsuc b) h = absurd (omega arith)
-parts→le (negsuc a) (pos b) h = tt
-parts→le (negsuc a) (negsuc b) h = le→leb b a (omega arith)
 
 pub ltZ-trans : (a b c : ℤ) → T (ltZ a b) → T (ltZ b c) → T (ltZ a c)
 ltZ-trans a b c h k = parts→lt a c (omega (arith, lt→parts a b h, lt→parts b c k))

@@ -2,13 +2,11 @@
 -- looked for among all rows: a row too large takes no part.
 --     leads c R, leads→, →leads      c lies inside R and is more than half of it
 --     leads-reaches, leads-of-reach  which is to hold R's highest taxon
---     leads-iff-highest              or to have the same highest taxon
---     reach-iff-highest              a row up to R reaches R's highest taxon where it has the same highest taxon
 --     coversOf-lead                  one entry more, among rows that fall: it leads, or plays no part
 --     coversOf-one                   the same with one child left: the entry is R itself
 --     coversOf-zero-is               with no child left: nothing is left to cover
 --     coversOf-stop                  nothing left to cover: the empty cover and no other
---     coversOf-first, coversOf-above     rows above R in front play no part
+--     coversOf-first                 a row above R in front plays no part
 --     within b, coversOf-within      nor do rows above any bound from R on
 --     coversOf-local                 lists that agree on the rows up to such a bound have the same covers of R
 --     coversOf-scored                and so have their scored rows
@@ -16,8 +14,7 @@
 use mathlib.Core.Path.{_≡_, refl, sym, ap, _∙_, subst}
 use mathlib.Core.Bool.{Bool, true, false, cond, _&&_}
 use mathlib.Core.List.{List, [], _∷_, _++_, map, append-nil, Memᴰ·map, Memᴰ·of-map}
-use mathlib.Core.List.{List·Memᴰ as Mem, List·Memᴰ·head as here, List·Memᴰ·tail as there}
-use mathlib.Core.Logic.{_↔_}
+use mathlib.Core.List.{List·Memᴰ as Mem}
 use Prim.Native.Nat.{ℕ, zero, suc, _-_, _^_, _≤_, _<_}
 use native.Mathlib.Decide.{decLt}
 use native.Mathlib.Omega.{arith}
@@ -30,7 +27,7 @@ use Rattle.laws.proofs.Descends.{Descends, descends-first}
 use Rattle.laws.proofs.Keep.{keep-none, keep-swap}
 use Rattle.laws.proofs.Sublists.{mem-of-sublist, sublists-drop}
 use Rattle.laws.proofs.Cluster.{inside-refl, le-of-inside, apart-of-inside, rest-apart, union-rest, unionOf-lt, inside-unionOf}
-use Rattle.laws.proofs.Taxa.{highest-le, highest-gt, highest-only}
+use Rattle.laws.proofs.Taxa.{highest-le, highest-gt}
 use Rattle.trees.specs.Rows.{Entry, cl, sc}
 use Rattle.trees.proofs.Covers.{covers, cover→, isCover, coversOf, inFront, takeIf, chosen, chosen-is, coversOf-cons}
 
@@ -59,17 +56,6 @@ leads-reaches c R p h = go (decLt c (2 ^ highest R))
 
 pub leads-of-reach : (c R : ℕ) → 0 < R → T (inside c R) → 2 ^ highest R ≤ c → T (leads c R)
 leads-of-reach c R p i h = →leads c R i (omega (arith, highest-gt R p, le-of-inside c R i))
-
--- the rows up to R that reach its highest taxon are those with the same highest taxon
-pub reach-iff-highest : (c R : ℕ) → 0 < c → c ≤ R → (2 ^ highest R ≤ c) ↔ (highest c ≡ highest R)
-reach-iff-highest c R p l =
-    (λ h. highest-only c (highest R) h (omega (arith, highest-gt R (omega arith))), λ e. subst (λ (t : ℕ). 2 ^ t ≤ c) e (highest-le c p))
-
-pub leads-iff-highest : (c R : ℕ) → 0 < c → T (inside c R) → T (leads c R) ↔ (highest c ≡ highest R)
-leads-iff-highest c R p i =
-    let l = le-of-inside c R i in
-    let q = reach-iff-highest c R p l in
-    (λ h. q .0 (leads-reaches c R (omega arith) h), λ e. leads-of-reach c R (omega arith) i (q .1 e))
 
 -- ---- covers from below
 
@@ -162,11 +148,6 @@ module _ {A : Type 0} where
   pub coversOf-stop : (n : ℕ) (es : List (Entry A)) → Descends (map cl es) → coversOf n 0 es ≡ [] ∷ []
   coversOf-stop n [] h = sym (chosen-is n 0 [])
   coversOf-stop n (e ∷ es) h = coversOf-first n 0 e es (h .0 .nonzero) ∙ coversOf-stop n es (h .1)
-
-  pub coversOf-above : (n R : ℕ) (xs es : List (Entry A)) → ((x : Entry A) → Mem x xs → R < cl x)
-      → coversOf n R (xs ++ es) ≡ coversOf n R es
-  coversOf-above n R [] es f = refl
-  coversOf-above n R (x ∷ xs) es f = coversOf-first n R x (xs ++ es) (f x (here refl)) ∙ coversOf-above n R xs es (λ y m. f y (there m))
 
   abbrev pub within : ℕ → Entry A → Bool
   within b e = leb (cl e) b

@@ -13,24 +13,20 @@
 --     lookup-row, lookup-missing     a row that is there, by its score, and one that isn't
 --     scan-ended, scan-cons          a scan by the list's shape
 --     scan-added, scan-passed        a row that is added, and one that is passed over
---     scan-over, scan-unscored, scan-outside  the reasons to pass over a row: it is above R, unscored, not inside R
---     scan-append, scan-idle         a scan in two parts, and one that adds nothing
---     scan-above                     rows above R in front are passed over
---     scan-half, scan-low            where a scan may stop: a row is at most half of R, or all rows lack R's highest taxon
---     scan-run                       a whole scan is that of the run between the rows above R and those without its highest taxon
+--     scan-unscored, scan-outside    the reasons to pass over a row: it is unscored, or not inside R
+--     scan-idle, scan-low            a scan that adds nothing; so it is where all rows lack R's highest taxon, and there it may stop
 -- Assumes nothing.
 use mathlib.Core.Path.{_≡_, refl, ap, _∙_}
 use mathlib.Core.Logic.{_≢_}
 use mathlib.Core.Bool.{Bool, true, false, cond, _&&_}
-use mathlib.Core.List.{List, [], _∷_, _++_, map}
+use mathlib.Core.List.{List, [], _∷_, map}
 use mathlib.Core.List.{List·Memᴰ as Mem, List·Memᴰ·head as here, List·Memᴰ·tail as there}
-use Prim.Native.Nat.{ℕ, zero, suc, _-_, _*_, _^_, _≤_, _<_}
+use Prim.Native.Nat.{ℕ, zero, suc, _-_, _^_, _≤_, _<_}
 use native.Mathlib.Omega.{arith}
 use lib.Dec.{T, eqb, eqb→eq, eqb-refl}
 use Rattle.laws.specs.Cluster.{inside, highest}
 use Rattle.laws.proofs.Tests.{T-and, and-T, T-true, T-false, eq→eqb}
 use Rattle.laws.proofs.Descends.{Descends, descends-first}
-use Rattle.laws.proofs.Cluster.{le-of-inside}
 use Rattle.trees.specs.Rows.{Entry, cl, sc}
 use Rattle.trees.proofs.Kind.{Kind}
 use Rattle.trees.proofs.Leads.{leads, leads→, leads-reaches}
@@ -139,43 +135,17 @@ module _ {A : Type 0} (k : Kind A) (f : Entry A → A) (R : ℕ) where
       bad : T (sc e && leads (cl e) R) → ⊥
       bad t = let q = T-and (sc e) (leads (cl e) R) t in n (q .0) (q .1)
 
-  pub scan-over : (e : Entry A) (es : List (Entry A)) (s : A) → R < cl e → scan k f R (e ∷ es) s ≡ scan k f R es s
-  scan-over e es s h = scan-passed e es s (λ _ t. omega (arith, le-of-inside (cl e) R (leads→ (cl e) R t .0)))
-
   pub scan-unscored : (e : Entry A) (es : List (Entry A)) (s : A) → (T (sc e) → ⊥) → scan k f R (e ∷ es) s ≡ scan k f R es s
   scan-unscored e es s h = scan-passed e es s (λ t _. h t)
 
   pub scan-outside : (e : Entry A) (es : List (Entry A)) (s : A) → (T (inside (cl e) R) → ⊥) → scan k f R (e ∷ es) s ≡ scan k f R es s
   scan-outside e es s h = scan-passed e es s (λ _ t. h (leads→ (cl e) R t .0))
 
-  -- ---- the run of rows that a scan may be kept to
-
-  pub scan-append : (xs es : List (Entry A)) (s : A) → scan k f R (xs ++ es) s ≡ scan k f R es (scan k f R xs s)
-  unfolding scan
-  scan-append [] es s = refl
-  scan-append (x ∷ xs) es s = scan-append xs es (cond (sc x && leads (cl x) R) (k .plus s (f x)) s)
+  -- ---- rows that add nothing
 
   pub scan-idle : (es : List (Entry A)) (s : A) → ((x : Entry A) → Mem x es → T (leads (cl x) R) → ⊥) → scan k f R es s ≡ s
   scan-idle [] s n = scan-ended s
   scan-idle (e ∷ es) s n = scan-passed e es s (λ _ t. n e (here refl) t) ∙ scan-idle es s (λ x m. n x (there m))
 
-  pub scan-above : (xs es : List (Entry A)) (s : A) → ((x : Entry A) → Mem x xs → R < cl x) → scan k f R (xs ++ es) s ≡ scan k f R es s
-  scan-above xs es s h = scan-append xs es s ∙ ap (scan k f R es) (scan-idle xs s over)
-    where
-      over : (x : Entry A) → Mem x xs → T (leads (cl x) R) → ⊥
-      over x m t = omega (arith, h x m, le-of-inside (cl x) R (leads→ (cl x) R t .0))
-
-  -- a row at most half of R: neither it nor a smaller one leads R
-  pub scan-half : (e : Entry A) (es : List (Entry A)) (s : A) → Descends (map cl (e ∷ es)) → 2 * cl e ≤ R → scan k f R (e ∷ es) s ≡ s
-  scan-half e es s h l = scan-idle (e ∷ es) s small
-    where
-      small : (x : Entry A) → Mem x (e ∷ es) → T (leads (cl x) R) → ⊥
-      small x (here q) t = let c = ap cl q in omega (arith, leads→ (cl x) R t .1)
-      small x (there m) t = omega (arith, descends-first cl e es h x m, leads→ (cl x) R t .1)
-
   pub scan-low : (es : List (Entry A)) (s : A) → 0 < R → ((x : Entry A) → Mem x es → cl x < 2 ^ highest R) → scan k f R es s ≡ s
   scan-low es s p h = scan-idle es s (λ x m t. omega (arith, h x m, leads-reaches (cl x) R p t))
-
-  pub scan-run : (xs run es : List (Entry A)) (s : A) → 0 < R → ((x : Entry A) → Mem x xs → R < cl x)
-      → ((x : Entry A) → Mem x es → cl x < 2 ^ highest R) → scan k f R (xs ++ (run ++ es)) s ≡ scan k f R run s
-  scan-run xs run es s p h l = scan-above xs (run ++ es) s h ∙ scan-append run es s ∙ scan-low es (scan k f R run s) p l

@@ -3,7 +3,6 @@
 --     Summing             those laws
 --     over-append         a sum over tuples in two parts
 --     search-in-order     the search is the sum over the covers, from the last to the first
---     scan-in-order       a scan adds that sum to what is in hand, also where its inner searches are asked of other rows above R
 -- Assumes nothing.
 use mathlib.Core.Path.{_≡_, refl, sym, ap, ap₂, _∙_}
 use mathlib.Core.Bool.{Bool, true, false, cond, _&&_}
@@ -21,7 +20,6 @@ use Rattle.trees.specs.Rows.{Entry, cl, sc}
 use Rattle.trees.proofs.Kind.{Kind, prodK, overTuples}
 use Rattle.trees.proofs.Covers.{coversOf, inFront, takeIf, chosen-is}
 use Rattle.trees.proofs.Leads.{leads, leads→, coversOf-lead, coversOf-one, coversOf-zero-is, coversOf-stop, coversOf-first}
-use Rattle.trees.proofs.Leads.{within, coversOf-scored}
 use Rattle.trees.proofs.Search.{lookup, scan, gain, search, search-none, search-one, search-suc}
 use Rattle.trees.proofs.Search.{gain-whole, gain-part, lookup-cons, lookup-missing, scan-ended, scan-cons}
 
@@ -178,15 +176,11 @@ module _ {A : Type 0} (k : Kind A) (law : Summing k) where
           ∙ sym (rw q (ap (k .times (e .val)) (downward-stop n es h) ∙ law .times-unit (e .val)))
       go (suc x) q = gain-part k n R es e (omega arith) ∙ ap (k .times (e .val)) (ih (R - cl e) (omega arith))
 
-  -- a scan whose inner searches are asked of `all`, where those are the sums over the covers
-  scan-gain : (n R : ℕ) (all es : List (Entry A)) → Descends (map cl all) → Descends (map cl es) → 0 < R
-      → keep (within (R - 1)) all ≡ keep (within (R - 1)) es → ((r : ℕ) → 0 < r → search k n r all ≡ downward n r all)
-      → (s : A) → scan k (gain k n R all) R es s ≡ k .plus s (downward (suc n) R es)
-  scan-gain n R all es g h p e ih s =
-      scan-sum n R p (gain k n R all) all es h (record { adds = λ x m t. gain-is n R all g ih x t; same = same }) s
-    where
-      same : (x : Entry A) → Mem x es → (r : ℕ) → r < cl x → r < R → downward n r es ≡ downward n r all
-      same x m r l b = ap backward (coversOf-scored n r (R - 1) es all (omega arith) (sym e))
+  -- a scan, where the searches of what its rows leave are the sums over the covers
+  scan-gain : (n R : ℕ) (es : List (Entry A)) → Descends (map cl es) → 0 < R → ((r : ℕ) → 0 < r → search k n r es ≡ downward n r es)
+      → (s : A) → scan k (gain k n R es) R es s ≡ k .plus s (downward (suc n) R es)
+  scan-gain n R es h p ih s =
+      scan-sum n R p (gain k n R es) es es h (record { adds = λ x m t. gain-is n R es h ih x t; same = λ x m r l b. refl }) s
 
   pub search-in-order : (n R : ℕ) (es : List (Entry A)) → Descends (map cl es) → 0 < R
       → search k n R es ≡ overTuples k (reverse (coversOf n R (keep sc es)))
@@ -194,10 +188,5 @@ module _ {A : Type 0} (k : Kind A) (law : Summing k) where
   search-in-order (suc zero) R es h p = search-one k R es ∙ lookup-sum R es h p
   search-in-order (suc (suc n)) R es h p =
       search-suc k n R es
-      ∙ scan-gain (suc n) R es es h h p refl (λ r q. search-in-order (suc n) r es h q) (k .none)
+      ∙ scan-gain (suc n) R es h p (λ r q. search-in-order (suc n) r es h q) (k .none)
       ∙ law .none-plus (downward (suc (suc n)) R es)
-
-  pub scan-in-order : (n R : ℕ) (all es : List (Entry A)) → Descends (map cl all) → Descends (map cl es) → 0 < R
-      → keep (within (R - 1)) all ≡ keep (within (R - 1)) es
-      → (s : A) → scan k (gain k n R all) R es s ≡ k .plus s (overTuples k (reverse (coversOf (suc n) R (keep sc es))))
-  scan-in-order n R all es g h p e s = scan-gain n R all es g h p e (λ r q. search-in-order n r all g q) s

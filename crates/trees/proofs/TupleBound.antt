@@ -1,11 +1,11 @@
 -- How many tuples a row can have: 2 to d - 1 out of the other clusters, so at most the sum of those binomial numbers.
---     tuples-le, tuples-le-other       out of a list of clusters; of one fewer where the list has C itself, which is in no tuple
---     entries-le, entries-le-other     the same of tuples of entries
+--     tuples-le-other                  out of a list of clusters that has C itself, which is in no tuple
+--     entries-le                       tuples of entries
 --     row-length-le                    the row length of a row among rows
 --     few-narrow, few-wide             in numbers, for 128 and for 256 rows
 --     row-length-narrow                no row of 128 is longer than the limit
 -- Assumes nothing.
-use mathlib.Core.Path.{_≡_, refl, _∙_, subst}
+use mathlib.Core.Path.{refl, _∙_, subst}
 use mathlib.Core.Logic.{_≢_}
 use mathlib.Core.Bool.{Bool, true, false, not, cond, _&&_}
 use mathlib.Core.List.{List, map, Memᴰ·map, Memᴰ·of-map}
@@ -36,9 +36,6 @@ other C c = not (eqb c C)
 tuple-sized : (d C : ℕ) → Sized (isTuple d C) (d - 1)
 tuple-sized d C cs h = let f = tuple→ d C cs h in (f .two, f .few)
 
-pub tuples-le : (d C : ℕ) (L : List ℕ) → length (keep (isTuple d C) (sublists L)) ≤ few (length L) (d - 1)
-tuples-le d C L = few-le (isTuple d C) (d - 1) (tuple-sized d C) L
-
 pub tuples-le-other : (d C : ℕ) (L : List ℕ) → ((c : ℕ) → Mem c L → c ≢ 0) → Mem C L
     → length (keep (isTuple d C) (sublists L)) ≤ few (length L - 1) (d - 1)
 tuples-le-other d C L nz m =
@@ -53,18 +50,6 @@ module _ {A : Type 0} where
 
   pub entries-le : (d C : ℕ) (es : List (Entry A)) → length (tuples d C es) ≤ few (length es) (d - 1)
   entries-le d C es = few-le (λ (τ : List (Entry A)). isTuple d C (map cl τ)) (d - 1) (entry-sized d C) es
-
-  pub entries-le-other : (d C : ℕ) (es : List (Entry A)) → ((e : Entry A) → Mem e es → cl e ≢ 0) → (e : Entry A) → Mem e es → cl e ≡ C
-      → length (tuples d C es) ≤ few (length es - 1) (d - 1)
-  entries-le-other d C es nz e m q =
-      few-le-other (λ (τ : List (Entry A)). isTuple d C (map cl τ)) (d - 1) (entry-sized d C) (λ (x : Entry A). other C (cl x)) es e m
-      (λ h. neq→ (cl e) C h q) part
-    where
-      part : (τ : List (Entry A)) → Mem τ (sublists es) → T (isTuple d C (map cl τ)) → (x : Entry A) → Mem x τ → T (other C (cl x))
-      part τ k h x j = →neq (cl x) C (part-other d C (map cl τ) nonzero h (cl x) (Memᴰ·map cl j))
-        where
-          nonzero : (c : ℕ) → Mem c (map cl τ) → c ≢ 0
-          nonzero c i z = let y = Memᴰ·of-map cl τ i in nz (y .0) (mem-of-sublist es τ k (y .0) (y .1)) (y .2 ∙ z)
 
 -- ---- rows of a table
 
