@@ -1,37 +1,31 @@
 -- The children of a member in order of their smallest taxon, and how a writer meets them one after another.
 --     →in-order, in-order→          the children in order are the children
---     order-rising, order-once, order-apart, order-union, order-two     they rise by smallest taxon, are apart, make up C, are two at least
+--     order-rising, order-once, order-union, order-two     they rise by smallest taxon, none twice, make up C, are two at least
 --     Left left                     the taxa left are those of the children not yet written
 --     left-top                      at first they are all of C's
 --     next-child, next-inside, next-left     the next child, that it lies in what is left, and what is left after it
 --     partsIn left, parts-none, parts-more, parts-all     the children in what is left: none, one and the others, all
---     parts-is, parts-are-children  the rule that the writer goes by gives them
 -- Assumes nothing.
-use mathlib.Core.Path.{_≡_, sym, ap, _∙_, subst}
+use mathlib.Core.Path.{_≡_, sym, subst}
 use mathlib.Core.Logic.{_⊎_, inl, inr, _≢_}
 use mathlib.Core.List.{List, [], _∷_, Memᴰ·cast}
 use mathlib.Core.List.{List·Memᴰ as Mem, List·Memᴰ·head as here, List·Memᴰ·tail as there}
-use Prim.Native.Nat.{ℕ, zero, suc, _-_, _^_, _≤_, _<_}
+use Prim.Native.Nat.{ℕ, _-_, _^_, _≤_, _<_}
 use native.Mathlib.Decide.{ℕ-discrete}
-use native.Mathlib.Nat.{le-refl}
 use native.Mathlib.Omega.{arith}
-use lib.Dec.{T, eqb, eqb→eq}
+use lib.Dec.{T}
 use lib.ListN.{length}
-use Rattle.laws.specs.Cluster.{inside, apart, single, size, unionOf}
+use Rattle.laws.specs.Cluster.{inside, apart, single, unionOf}
 use Rattle.laws.specs.Lists.{keep, Once}
-use Rattle.laws.proofs.Tests.{T-true, T-false, eq→eqb}
 use Rattle.laws.proofs.Keep.{mem-keep, mem-of-keep, keep-none, keep-all}
 use Rattle.laws.proofs.Once.{once-keep}
 use Rattle.laws.proofs.Cluster.{inside-refl, inside-trans, le-of-inside, zero-of-inside, has-of-inside, apart→}
 use Rattle.laws.proofs.Cluster.{apart-of-inside, strict→, rest-apart, rest-inside, inside-rest}
-use Rattle.laws.proofs.Taxa.{size-pos, size-part}
 use Rattle.laws.proofs.Lowest.{lowest-in, lowest-le, lowest-lt, lowest-mono, lowest-apart}
 use Rattle.trees.specs.Tree.{children}
-use Rattle.trees.specs.Tuple.{allApart}
-use Rattle.trees.proofs.Tuples.{apart-all}
 use Rattle.drawing.specs.Shape.{smallest}
 use Rattle.drawing.specs.Drawn.{childrenInOrder}
-use Rattle.drawing.specs.Parts.{childWith, partsFrom}
+use Rattle.drawing.specs.Parts.{childWith}
 use Rattle.drawing.proofs.Sorted.{Rising, rising-once, rising-only, rising-keep, mem-sort, mem-of-sort, sort-rising}
 use Rattle.drawing.proofs.Nests.{Nests, Child, child→, →child, childWith-child, children-apart}
 use Rattle.drawing.proofs.Nests.{taxon-strict, children-union, children-two}
@@ -67,9 +61,6 @@ module _ (xs : List ℕ) (N : Nests xs) (C : ℕ) where
 
   pub order-once : Once order
   order-once = rising-once smallest order order-rising
-
-  pub order-apart : T (allApart order)
-  order-apart = apart-all order order-once (λ a b m k. children-apart xs N C a b (in-order→ a m) (in-order→ b k))
 
   -- ---- what is left
   pub record Left (left : ℕ) : Type 0 where
@@ -181,26 +172,3 @@ module _ (xs : List ℕ) (N : Nests xs) (C : ℕ) where
               let q = later c k in
               mem-keep (λ (x : ℕ). inside x left) order (→in-order c (q .0))
               (inside-trans c (left - next) left (q .1) (rest-inside next left next-inside))
-
-    -- ---- the writer's rule
-    pub parts-is : (n left : ℕ) → Left left → size left ≤ n → partsFrom n xs C left ≡ partsIn left
-    parts-is zero left l h = go (ℕ-discrete left 0)
-      where
-        go : Dec (left ≡ 0) → [] ≡ partsIn left
-        go (yes e) = sym (ap partsIn e ∙ parts-none)
-        go (no d) = absurd (omega (arith, size-pos left d))
-    parts-is (suc n) left l h = go (ℕ-discrete left 0) (λ d. parts-is n (left - c) (next-left left l d) (less d))
-      where
-        c : ℕ
-        c = childWith xs C (smallest left)
-
-        less : left ≢ 0 → size (left - c) ≤ n
-        less d = omega (arith, size-part c left (next-inside left l d), size-pos c (nonzero c (next-child left l d)))
-
-        go : Dec (left ≡ 0) → (left ≢ 0 → partsFrom n xs C (left - c) ≡ partsIn (left - c)) → partsFrom (suc n) xs C left ≡ partsIn left
-        go (yes e) ih = rw (T-true (eqb left 0) (eq→eqb left 0 e)) (sym (ap partsIn e ∙ parts-none))
-        go (no d) ih =
-            rw (T-false (eqb left 0) (λ t. d (eqb→eq left 0 t))) (ap (λ (l : List ℕ). c ∷ l) (ih d) ∙ sym (parts-more left l d))
-
-    pub parts-are-children : partsFrom (size C) xs C C ≡ order
-    parts-are-children = parts-is (size C) C left-top (le-refl (size C)) ∙ parts-all
