@@ -1,8 +1,7 @@
 // Whether a set of clusters is a tree. Cites `specs/Tree.antt` of the crate `trees`.
 //     has              whether a cluster is in the set
-//     are_inside       whether all are inside one
 //     has_taxa         whether the set has each taxon of a cluster
-//     is_laminar       whether any two are nested or apart
+//     are_nested       whether all are inside one, and any two nested or apart
 //     child_count      how many children a member has
 //     are_few          whether no member of two or more taxa has too many
 //     is_tree          all of it
@@ -59,20 +58,6 @@ fn has(xs: &[u64], c: u64) -> bool
     false
 }
 
-// Whether all are inside `c`.
-fn are_inside(xs: &[u64], c: u64) -> bool
-    ensures { λ r. ⌜ r ≡ every (λ m. inside m c) (now (xs .entry)) ⌝ }
-{
-    let mut i = 0;
-    while i < xs.len() {
-        if !is_inside(xs[i], c) {
-            return false;
-        }
-        i += 1;
-    }
-    true
-}
-
 // Whether each single taxon of `c` is one of them.
 fn has_taxa(xs: &[u64], c: u64) -> bool
     ensures { λ r. ⌜ r ≡ every (λ u. not (inside u c) || elem u (now (xs .entry))) (taxa (narrow .taxa)) ⌝ }
@@ -104,13 +89,17 @@ fn nests(xs: &[u64], a: u64) -> bool
     true
 }
 
-// Whether any two are nested or apart.
-fn is_laminar(xs: &[u64]) -> bool
-    ensures { λ r. ⌜ r ≡ every (λ a. every (λ b. nested a b) (now (xs .entry))) (now (xs .entry)) ⌝ }
+// Whether all are inside `c`, and any two are nested or apart.
+fn are_nested(xs: &[u64], c: u64) -> bool
+    ensures { λ r. ⌜ r ≡ every (λ a. inside a c && every (λ b. nested a b) (now (xs .entry))) (now (xs .entry)) ⌝ }
 {
     let mut i = 0;
     while i < xs.len() {
-        if !nests(xs, xs[i]) {
+        let a = xs[i];
+        if !is_inside(a, c) {
+            return false;
+        }
+        if !nests(xs, a) {
             return false;
         }
         i += 1;
@@ -175,16 +164,13 @@ pub(crate) fn is_tree(xs: &[u64], c: u64, degree: u32) -> bool
     requires { ⌜ 1 ≤ degree ⌝ }
     ensures { λ r. ⌜ r ≡ isTree (narrow .taxa) degree c (now (xs .entry)) ⌝ }
 {
-    if !are_inside(xs, c) {
+    if !are_nested(xs, c) {
         return false;
     }
     if !has(xs, c) {
         return false;
     }
     if !has_taxa(xs, c) {
-        return false;
-    }
-    if !is_laminar(xs) {
         return false;
     }
     let most = (degree - 1) as usize;

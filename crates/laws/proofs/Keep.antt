@@ -2,6 +2,7 @@
 --     mem-keep, mem-of-keep           into a filtered list, and out of it
 --     every→, →every, some→, →some, elem→, →elem     a test of a list, as a statement about its elements
 --     mem-bind, mem-of-bind           into the lists of `bind`, and out of them
+--     every-and                       two tests at once, or one after the other
 --     keep-ext, some-ext              equal tests
 --     keep-keep, some-keep            a filter after a filter, and a test after it
 --     keep-swap                       two filters, in either order
@@ -54,6 +55,16 @@ module _ {A : Type 0} where
   pub →every : (p : A → Bool) (l : List A) → ((x : A) → Mem x l → T (p x)) → T (every p l)
   →every p [] f = tt
   →every p (y ∷ ys) f = and-T (p y) (every p ys) (f y (here refl)) (→every p ys (λ x m. f x (there m)))
+
+  pub every-and : (p q : A → Bool) (l : List A) → every (λ (x : A). p x && q x) l ≡ (every p l && every q l)
+  every-and p q [] = refl
+  every-and p q (x ∷ xs) = ap (λ (r : Bool). (p x && q x) && r) (every-and p q xs) ∙ swap (p x) (q x) (every p xs) (every q xs)
+    where
+      swap : (a b c d : Bool) → ((a && b) && (c && d)) ≡ ((a && c) && (b && d))
+      swap true true c d = refl
+      swap true false true d = refl
+      swap true false false d = refl
+      swap false b c d = refl
 
   pub some→ : (p : A → Bool) (l : List A) → T (some p l) → (x : A) × Mem x l × T (p x)
   some→ p [] h = absurd h

@@ -1,10 +1,10 @@
--- The definition's test of a tree, as the row of tests that the code makes.
---     allInside, hasTaxon, hasTaxa, isLaminar, areFew     the tests by name
---     isTree-inside, isTree-top, isTree-taxa, isTree-laminar, isTree-few     the tests in turn
+-- The definition's test of a tree, as the row of tests that the code makes: it asks in one loop whether all are inside and nest.
+--     areNested, hasTaxon, hasTaxa, areFew     the tests by name
+--     isTree-nested, isTree-top, isTree-taxa, isTree-few     the tests in turn
 --     taxon-shift              taxon i as a shift makes it
 --     taxa-more, taxa-stop     the one-taxon clusters, upward: one that passes, and one that doesn't
 -- Assumes nothing.
-use mathlib.Core.Path.{_≡_, sym, ap, _∙_}
+use mathlib.Core.Path.{_≡_, refl, sym, ap, _∙_}
 use mathlib.Core.Bool.{Bool, true, false, not, _&&_, _||_, and-false}
 use mathlib.Core.List.{List}
 use Prim.Native.Nat.{ℕ, zero, suc, _+_, _-_, _*_, _%_, _^_, _<_}
@@ -18,12 +18,13 @@ use lib.Pow.{pow-lt}
 use Rattle.laws.specs.Cluster.{inside, nested, single, taxa}
 use Rattle.laws.specs.Limits.{narrow}
 use Rattle.laws.specs.Lists.{every, elem}
+use Rattle.laws.proofs.Keep.{every-and}
 use Rattle.trees.specs.Tree.{children, isTree}
 use Rattle.table.specs.View.{wordValues}
 
--- ---- the five tests in turn: where those before pass and one fails, the whole fails; where four pass, the last decides
-abbrev pub allInside : ℕ → List ℕ → Bool
-allInside c xs = every (λ (m : ℕ). inside m c) xs
+-- ---- the tests in turn: where those before pass and one fails, the whole fails; where three pass, the last decides
+abbrev pub areNested : ℕ → List ℕ → Bool
+areNested c xs = every (λ (a : ℕ). inside a c && every (λ (b : ℕ). nested a b) xs) xs
 
 abbrev pub hasTaxon : ℕ → List ℕ → ℕ → Bool
 hasTaxon c xs u = not (inside u c) || elem u xs
@@ -31,32 +32,39 @@ hasTaxon c xs u = not (inside u c) || elem u xs
 abbrev pub hasTaxa : ℕ → ℕ → List ℕ → Bool
 hasTaxa w c xs = every (hasTaxon c xs) (taxa w)
 
-abbrev pub isLaminar : List ℕ → Bool
-isLaminar xs = every (λ (a : ℕ). every (λ (b : ℕ). nested a b) xs) xs
-
 abbrev pub areFew : ℕ → List ℕ → Bool
 areFew d xs = every (λ (m : ℕ). single m || leb (length (children xs m)) (d - 1)) xs
 
+-- the fourth of five tests made with the first
+fourth-first : (a b c d e : Bool) → (a && b && c && d && e) ≡ ((a && d) && b && c && e)
+fourth-first true true true true e = refl
+fourth-first true true true false e = refl
+fourth-first true true false true e = refl
+fourth-first true true false false e = refl
+fourth-first true false c true e = refl
+fourth-first true false c false e = refl
+fourth-first false b c d e = refl
+
 module _ (w d c : ℕ) (xs : List ℕ) where
-  pub isTree-inside : allInside c xs ≡ false → isTree w d c xs ≡ false
+  isTree-is : isTree w d c xs ≡ (areNested c xs && elem c xs && hasTaxa w c xs && areFew d xs)
   unfolding isTree
-  isTree-inside e = rw e
+  isTree-is =
+      fourth-first (every (λ (m : ℕ). inside m c) xs) (elem c xs) (hasTaxa w c xs) (every (λ (a : ℕ). every (λ (b : ℕ). nested a b) xs) xs)
+      (areFew d xs)
+      ∙ ap (λ (b : Bool). b && elem c xs && hasTaxa w c xs && areFew d xs)
+      (sym (every-and (λ (m : ℕ). inside m c) (λ (a : ℕ). every (λ (b : ℕ). nested a b) xs) xs))
 
-  pub isTree-top : allInside c xs ≡ true → elem c xs ≡ false → isTree w d c xs ≡ false
-  unfolding isTree
-  isTree-top e f = rw (e, f)
+  pub isTree-nested : areNested c xs ≡ false → isTree w d c xs ≡ false
+  isTree-nested e = isTree-is ∙ rw e refl
 
-  pub isTree-taxa : allInside c xs ≡ true → elem c xs ≡ true → hasTaxa w c xs ≡ false → isTree w d c xs ≡ false
-  unfolding isTree
-  isTree-taxa e f g = rw (e, f, g)
+  pub isTree-top : areNested c xs ≡ true → elem c xs ≡ false → isTree w d c xs ≡ false
+  isTree-top e f = isTree-is ∙ rw (e, f) refl
 
-  pub isTree-laminar : allInside c xs ≡ true → elem c xs ≡ true → hasTaxa w c xs ≡ true → isLaminar xs ≡ false → isTree w d c xs ≡ false
-  unfolding isTree
-  isTree-laminar e f g h = rw (e, f, g, h)
+  pub isTree-taxa : areNested c xs ≡ true → elem c xs ≡ true → hasTaxa w c xs ≡ false → isTree w d c xs ≡ false
+  isTree-taxa e f g = isTree-is ∙ rw (e, f, g) refl
 
-  pub isTree-few : allInside c xs ≡ true → elem c xs ≡ true → hasTaxa w c xs ≡ true → isLaminar xs ≡ true → isTree w d c xs ≡ areFew d xs
-  unfolding isTree
-  isTree-few e f g h = rw (e, f, g, h)
+  pub isTree-few : areNested c xs ≡ true → elem c xs ≡ true → hasTaxa w c xs ≡ true → isTree w d c xs ≡ areFew d xs
+  isTree-few e f g = isTree-is ∙ rw (e, f, g) refl
 
 -- ---- the one-taxon clusters, upward
 -- taxon i as a shift makes it

@@ -1,4 +1,4 @@
--- `drawing::nesting::is_tree` meets its contract: the five tests of a tree, in the definition's order. Assumes nothing.
+-- `drawing::nesting::is_tree` meets its contract: the tests of a tree, one after the other. Assumes nothing.
 use mathlib.Core.Path.{_≡_, sym, _∙_}
 use mathlib.Core.Bool.{true}
 use borrow.Author.Needs.{needs}
@@ -6,8 +6,7 @@ use borrow.Author.Tests.{not-true, not-false}
 use denote.Ref.{now}
 use Rattle.laws.specs.Limits.{narrow}
 use Rattle.laws.specs.Lists.{elem}
-use Rattle.drawing.proofs.Laws.TreeTest.{allInside, hasTaxa, isLaminar}
-use Rattle.drawing.proofs.Laws.TreeTest.{isTree-inside, isTree-top, isTree-taxa, isTree-laminar, isTree-few}
+use Rattle.drawing.proofs.Laws.TreeTest.{areNested, hasTaxa, isTree-nested, isTree-top, isTree-taxa, isTree-few}
 use Rattle.drawing.proofs.nesting.is_tree.Statement.{statement}
 use Rattle.drawing.proofs.nesting.is_tree.Tie as tie
 
@@ -15,8 +14,8 @@ use Rattle.drawing.proofs.nesting.is_tree.Tie as tie
 abbrev first-start : tie.Else1 → tie.Start
 first-start s = s .before .before .before
 
-first-passed : (s : tie.Else1) → allInside (first-start s .args .c) (now (first-start s .args .xs)) ≡ true
-first-passed s = sym (s .before .are-inside .ensures) ∙ not-false _ (s .if1 .left)
+first-passed : (s : tie.Else1) → areNested (first-start s .args .c) (now (first-start s .args .xs)) ≡ true
+first-passed s = sym (s .before .are-nested .ensures) ∙ not-false _ (s .if1 .left)
 
 abbrev second-start : tie.Else2 → tie.Start
 second-start s = first-start (s .before .before)
@@ -30,21 +29,15 @@ third-start s = second-start (s .before .before)
 third-passed : (s : tie.Else3) → hasTaxa (narrow .taxa) (third-start s .args .c) (now (third-start s .args .xs)) ≡ true
 third-passed s = sym (s .before .has-taxa .ensures) ∙ not-false _ (s .if3 .left)
 
-abbrev fourth-start : tie.Else4 → tie.Start
-fourth-start s = third-start (s .before .before)
-
-fourth-passed : (s : tie.Else4) → isLaminar (now (fourth-start s .args .xs)) ≡ true
-fourth-passed s = sym (s .before .is-laminar .ensures) ∙ not-false _ (s .if4 .left)
-
 -- ---- the needs
-are-inside-requires : tie.Need-are-inside-requires
-are-inside-requires c κs = search needs
+are-nested-requires : tie.Need-are-nested-requires
+are-nested-requires c κs = search needs
 
 returns : tie.Need-returns
 returns c =
     let a = c .before .before .before .args in
-    let no = sym (c .before .are-inside .ensures) ∙ not-true _ (c .if1 .taken) in
-    sym (isTree-inside (narrow .taxa) (a .degree) (a .c) (now (a .xs)) no)
+    let no = sym (c .before .are-nested .ensures) ∙ not-true _ (c .if1 .taken) in
+    sym (isTree-nested (narrow .taxa) (a .degree) (a .c) (now (a .xs)) no)
 
 has-requires : tie.Need-has-requires
 has-requires c κs = search needs
@@ -67,19 +60,6 @@ returns-3 c =
     let no = sym (c .before .has-taxa .ensures) ∙ not-true _ (c .if3 .taken) in
     sym (isTree-taxa (narrow .taxa) (a .degree) (a .c) (now (a .xs)) (first-passed first) (second-passed second) no)
 
-is-laminar-requires : tie.Need-is-laminar-requires
-is-laminar-requires c κs = search needs
-
-returns-4 : tie.Need-returns-4
-returns-4 c =
-    let third = c .before .before in
-    let second = third .before .before in
-    let first = second .before .before in
-    let a = first-start first .args in
-    let no = sym (c .before .is-laminar .ensures) ∙ not-true _ (c .if4 .taken) in
-    sym
-    (isTree-laminar (narrow .taxa) (a .degree) (a .c) (now (a .xs)) (first-passed first) (second-passed second) (third-passed third) no)
-
 sub-most : tie.Need-sub-most
 sub-most c = search needs
 
@@ -89,29 +69,26 @@ cast-most c = search needs
 are-few-requires : tie.Need-are-few-requires
 are-few-requires c κs = search needs
 
-returns-5 : tie.Need-returns-5
-returns-5 c =
-    let fourth = c .before in
-    let third = fourth .before .before in
+returns-4 : tie.Need-returns-4
+returns-4 c =
+    let third = c .before in
     let second = third .before .before in
     let first = second .before .before in
     let a = first-start first .args in
     let few = isTree-few (narrow .taxa) (a .degree) (a .c) (now (a .xs)) in
-    c .are-few .ensures ∙ sym (few (first-passed first) (second-passed second) (third-passed third) (fourth-passed fourth))
+    c .are-few .ensures ∙ sym (few (first-passed first) (second-passed second) (third-passed third))
 
 pub is-tree-spec : {M : Type 1} → statement M
 is-tree-spec =
     tie.close
     (tie.spec
-    are-inside-requires
+    are-nested-requires
     returns
     has-requires
     returns-2
     has-taxa-requires
     returns-3
-    is-laminar-requires
-    returns-4
     sub-most
     cast-most
     are-few-requires
-    returns-5)
+    returns-4)
