@@ -1,4 +1,5 @@
 -- Numbers in decimal.
+--     figures-low, figures-high     the two cases: below ten one figure, else the figures of a tenth and then the last
 --     isFigure b             the byte is one of 0 to 9
 --     decimal-figures        a number in decimal is figures
 --     decimal-some           one at least: the first, and the others
@@ -20,12 +21,12 @@ use Rattle.drawing.specs.Decimal.{figure, figures, decimal}
 
 -- ---- the two cases
 
-figures-low : (k n : ℕ) → n < 10 → figures k n ≡ figure n ∷ []
+pub figures-low : (k n : ℕ) → n < 10 → figures k n ≡ figure n ∷ []
 unfolding figures
 figures-low zero n h = refl
 figures-low (suc k) n h = rw (T-true (ltb n 10) (lt→ltb n 10 h))
 
-figures-high : (k n : ℕ) → 10 ≤ n → figures (suc k) n ≡ figures k (n / 10) ++ (figure (n % 10) ∷ [])
+pub figures-high : (k n : ℕ) → 10 ≤ n → figures (suc k) n ≡ figures k (n / 10) ++ (figure (n % 10) ∷ [])
 unfolding figures
 figures-high k n h = rw (T-false (ltb n 10) (λ t. omega (arith, ltb→lt n 10 t)))
 

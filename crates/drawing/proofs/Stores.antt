@@ -1,5 +1,6 @@
 -- Bytes stored one after another: those that one call of the writer of a text puts down, and where the next goes.
 --     Stored s i l s′ j          s′ is s with the bytes l stored from i on, and j is where the next goes
+--     sets-append                stores, then more where they end, are all of them stored
 --     stored-more                bytes after bytes
 --     taxon-one, taxon-two       a taxon in decimal, of one figure or two; with `-fits`, that they stand in the room
 --     comma-is                   the comma before each child but the first, as bytes
@@ -24,7 +25,7 @@ use Rattle.drawing.proofs.Decimal.{decimal-one, decimal-two}
 abbrev pub Stored : List ℕ → ℕ → List ℕ → List ℕ → ℕ → Type 0
 Stored s i l s′ j = (s′ ≡ sets s i l) × (j ≡ i + length l)
 
-sets-append : (s : List ℕ) (i : ℕ) (l l′ : List ℕ) → sets s i (l ++ l′) ≡ sets (sets s i l) (i + length l) l′
+pub sets-append : (s : List ℕ) (i : ℕ) (l l′ : List ℕ) → sets s i (l ++ l′) ≡ sets (sets s i l) (i + length l) l′
 sets-append s i [] l′ = ap (λ (n : ℕ). sets s n l′) (sym (add-zero i))
 sets-append s i (b ∷ l) l′ = sets-append (set s i b) (suc i) l l′ ∙ ap (λ (n : ℕ). sets (sets s i (b ∷ l)) n l′) (omega arith)
 

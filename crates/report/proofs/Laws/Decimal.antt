@@ -1,25 +1,16 @@
--- Numbers in decimal, as they are written: below ten one figure, else the figures of a tenth of the number and then the last.
---     decimal-low, decimal-high     the two cases
---     decimal-length-le             a number below a power of ten has no more figures than that
+-- Numbers in decimal, as they are written: below ten one figure (`decimal-one` of the crate `drawing`), else as here.
+--     decimal-high          the figures of a tenth of the number and then the last
+--     decimal-length-le     a number below a power of ten has no more figures than that
 -- Assumes nothing.
-use mathlib.Core.Path.{_≡_, refl, sym, _∙_}
+use mathlib.Core.Path.{_≡_, sym, _∙_}
 use mathlib.Core.List.{[], _∷_, _++_}
 use Prim.Native.Nat.{ℕ, zero, suc, _/_, _%_, _^_, _≤_, _<_}
 use native.Mathlib.Decide.{decLe}
 use native.Mathlib.Nat.{le-refl, pow-suc}
 use native.Mathlib.Omega.{arith}
-use borrow.Author.Tests.{lt-ltb, le-ltb}
 use lib.ListN.{length, length-append}
 use Rattle.drawing.specs.Decimal.{figure, figures, decimal}
-
-figures-low : (k n : ℕ) → n < 10 → figures k n ≡ figure n ∷ []
-unfolding figures
-figures-low zero n h = refl
-figures-low (suc k) n h = rw (lt-ltb n 10 h)
-
-figures-high : (k n : ℕ) → 10 ≤ n → figures (suc k) n ≡ figures k (n / 10) ++ (figure (n % 10) ∷ [])
-unfolding figures
-figures-high k n h = rw (le-ltb n 10 h)
+use Rattle.drawing.proofs.Decimal.{figures-low, figures-high}
 
 -- as many steps as the number says are enough
 figures-enough : (j k n : ℕ) → n ≤ j → n ≤ k → figures j n ≡ figures k n
@@ -30,9 +21,6 @@ figures-enough (suc j) (suc k) n h l = go (decLe 10 n) (λ t. figures-enough j k
     go : Dec (10 ≤ n) → (10 ≤ n → figures j (n / 10) ≡ figures k (n / 10)) → figures (suc j) n ≡ figures (suc k) n
     go (yes t) ih = rw (figures-high j n t, figures-high k n t, ih t)
     go (no t) ih = figures-low (suc j) n (omega arith) ∙ sym (figures-low (suc k) n (omega arith))
-
-pub decimal-low : (n : ℕ) → n < 10 → decimal n ≡ figure n ∷ []
-decimal-low n h = figures-low n n h
 
 pub decimal-high : (n : ℕ) → 10 ≤ n → decimal n ≡ decimal (n / 10) ++ (figure (n % 10) ∷ [])
 decimal-high zero h = absurd (omega arith)

@@ -1,7 +1,6 @@
 -- Bytes put into room one after the other: what each function that puts a word requires and ensures, and how words follow each other.
 --     Room l at a           l has room for a from at on
 --     Puts l at a m e       m is l with a put in from at on, and e is where the next byte goes
---     sets-append           stores, then more where they end, are all of them stored
 --     puts-nil              no byte
 --     puts-store            one byte
 --     puts-cons             a byte, then more
@@ -17,28 +16,23 @@
 --     decimal-room-low, decimal-puts-low        a number below ten: room for its figure, and that it is put
 --     decimal-room-high, decimal-room-last, decimal-puts-high     another: the figures of a tenth of it, and then the last
 -- Assumes nothing.
-use mathlib.Core.Path.{_≡_, refl, ap, ap₂, _∙_}
+use mathlib.Core.Path.{_≡_, refl, sym, ap, ap₂, _∙_}
 use mathlib.Core.List.{List, [], _∷_, _++_}
-use Prim.Native.Nat.{ℕ, suc, _+_, _/_, _%_, _≤_, _<_}
-use native.Mathlib.Nat.{add-zero}
+use Prim.Native.Nat.{ℕ, _+_, _/_, _%_, _≤_, _<_}
 use native.Mathlib.Numerals.{add-one}
 use native.Mathlib.Omega.{arith}
 use lib.ListN.{length, getD, take, set, length-set, length-append}
 use lib.Seq.{sets, length-sets, take-suc}
 use Rattle.drawing.specs.Decimal.{figure, decimal}
-use Rattle.report.proofs.Laws.Decimal.{decimal-low, decimal-high}
+use Rattle.drawing.proofs.Decimal.{decimal-one}
+use Rattle.drawing.proofs.Stores.{Stored, sets-append}
+use Rattle.report.proofs.Laws.Decimal.{decimal-high}
 
 abbrev pub Room : List ℕ → ℕ → List ℕ → Type 0
 Room l at a = at + length a ≤ length l
 
 abbrev pub Puts : List ℕ → ℕ → List ℕ → List ℕ → ℕ → Type 0
-Puts l at a m e = (m ≡ sets l at a) × (e ≡ at + length a)
-
-pub sets-append : (a b l : List ℕ) (at : ℕ) → sets (sets l at a) (at + length a) b ≡ sets l at (a ++ b)
-sets-append [] b l at = rw (add-zero at)
-sets-append (x ∷ a) b l at =
-    let next : at + suc (length a) ≡ suc at + length a = omega arith in
-    rw next (sets-append a b (set l at x) (suc at))
+Puts = Stored
 
 module _ (l : List ℕ) (at : ℕ) where
   pub puts-nil : Puts l at [] l at
@@ -59,7 +53,7 @@ module _ (l : List ℕ) (at : ℕ) where
   module _ (a b : List ℕ) where
     pub puts-append : {m n : List ℕ} {e f : ℕ} → Puts l at a m e → Puts m e b n f → Puts l at (a ++ b) n f
     puts-append p q = (
-      q .0 ∙ ap₂ (λ (r : List ℕ) (k : ℕ). sets r k b) (p .0) (p .1) ∙ sets-append a b l at,
+      q .0 ∙ ap₂ (λ (r : List ℕ) (k : ℕ). sets r k b) (p .0) (p .1) ∙ sym (sets-append l at a b),
       omega (arith, length-append a b),
     )
 
@@ -102,7 +96,7 @@ module _ {l line m : List ℕ} {e : ℕ} where
   pub rest-word : (a b : List ℕ) {n : List ℕ} {f : ℕ} → Rest l line m e (a ++ b) → Puts m e a n f → Rest l line n f b
   rest-word a b r p =
       record {
-        whole = ap₂ (λ (x : List ℕ) (k : ℕ). sets x k b) (p .0) (p .1) ∙ sets-append a b m e ∙ r .whole;
+        whole = ap₂ (λ (x : List ℕ) (k : ℕ). sets x k b) (p .0) (p .1) ∙ sym (sets-append m e a b) ∙ r .whole;
         ends = omega (arith, length-append a b, r .ends, p .1);
         long = puts-length m e a p ∙ r .long;
         fits = r .fits;
@@ -123,10 +117,10 @@ puts-next l at a i {m} h p =
 
 module _ (l : List ℕ) (at n : ℕ) where
   pub decimal-room-low : n < 10 → Room l at (decimal n) → at < length l
-  decimal-room-low h r = let s : Room l at (figure n ∷ []) = rw (decimal-low n h) at r in omega arith
+  decimal-room-low h r = let s : Room l at (figure n ∷ []) = rw (decimal-one n h) at r in omega arith
 
   pub decimal-puts-low : n < 10 → Puts l at (decimal n) (set l at (figure n)) (at + 1)
-  decimal-puts-low h = rw (decimal-low n h) (puts-store l at (figure n))
+  decimal-puts-low h = rw (decimal-one n h) (puts-store l at (figure n))
 
   module _ (h : 10 ≤ n) where
     pub decimal-room-high : Room l at (decimal n) → Room l at (decimal (n / 10))
