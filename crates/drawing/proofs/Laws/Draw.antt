@@ -34,7 +34,7 @@ use Rattle.drawing.specs.declared.marks.Members.{Members}
 use Rattle.drawing.specs.Marked.{membersTo, scoredTo, weightTo}
 use Rattle.drawing.specs.Draw.{leafRow, hasTree, leafMarks, membersOf, isSame, areScored, weighsBest, isDrawable, drawRefusal}
 use Rattle.drawing.specs.Gathered.{Holds}
-use Rattle.drawing.proofs.Laws.Gathered.{held-part}
+use Rattle.drawing.proofs.Laws.Front.{front-of-holds}
 
 -- a number of 64 bits as the code has it
 abbrev word : ℤ → ℤ
@@ -94,7 +94,8 @@ module _ (t : Table) (fit : isFit t ≡ true) where
 
       tests-are : isDrawable t ≡ (true && tree && weighsBest t)
       tests-are =
-          ap₂ (λ (a b : Bool). a && b && weighsBest t) (scored-is ∙ h) (sym (ap₂ (isTree (narrow .taxa) (t .degree)) q (held-part held)))
+          ap₂ (λ (a b : Bool). a && b && weighsBest t) (scored-is ∙ h)
+          (sym (ap₂ (isTree (narrow .taxa) (t .degree)) q (front-of-holds held .front)))
 
       pub drawable-no-tree : tree ≡ false → isDrawable t ≡ false
       drawable-no-tree k = tests-are ∙ ap (λ (b : Bool). b && weighsBest t) k

@@ -1,15 +1,13 @@
 -- The members gathered in an array.
 --     holds-none     none are gathered in an array of zeros
 --     holds-more     one more at the end
---     held-part      the part of the array that holds them
---     held-size, held-length     it is no longer than the array, and as long as is told
 -- Assumes nothing.
 use mathlib.Core.Path.{_≡_, refl, sym, ap, ap₂, _∙_}
 use mathlib.Core.List.{List, [], _∷_, _++_, append-assoc}
-use Prim.Native.Nat.{ℕ, suc, _+_, _-_, _≤_, _<_}
+use Prim.Native.Nat.{ℕ, suc, _+_, _-_, _<_}
 use native.Mathlib.Omega.{arith}
-use lib.ListN.{length, length-append, take, replicate, set}
-use lib.Seq.{take-at, set-at}
+use lib.ListN.{length, length-append, replicate, set}
+use lib.Seq.{set-at}
 use Rattle.table.specs.View.{rowCap}
 use Rattle.drawing.specs.declared.marks.Members.{Members}
 use Rattle.drawing.specs.Gathered.{Holds}
@@ -30,13 +28,3 @@ holds-more {r} {xs} h l x = record { told = rw length-append (omega (arith, h .t
         ap₂ (λ (s : List ℕ) (n : ℕ). set s n x) (h .held ∙ ap (λ (n : ℕ). xs ++ replicate n 0) room) (h .told)
         ∙ set-at xs 0 zeros x (length xs) refl
         ∙ sym (append-assoc xs (x ∷ []) zeros)
-
-module _ {r : Members} {xs : List ℕ} (h : Holds r xs) where
-  pub held-part : take (r .size) (r .clusters) ≡ xs
-  held-part = ap (take (r .size)) (h .held) ∙ take-at xs _ (r .size) (sym (h .told))
-
-  pub held-size : r .size ≤ length (r .clusters)
-  held-size = rw (h .held, length-append) (omega (arith, h .told))
-
-  pub held-length : r .size ≡ length (take (r .size) (r .clusters))
-  held-length = h .told ∙ sym (ap length held-part)

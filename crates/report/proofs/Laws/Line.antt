@@ -27,8 +27,8 @@ use borrow.Author.Tests.{le-leb, lt-leb}
 use lib.Count.{ones-le}
 use lib.Dec.{eqb}
 use lib.IntN.{ℤ, pos, negsuc, natAbs}
-use lib.ListN.{length, getD, take, drop, length-append}
-use lib.Seq.{sets, sets-eq, take-all, take-at}
+use lib.ListN.{length, getD, take, drop}
+use lib.Seq.{sets, sets-eq, take-all}
 use mir.Facts.{toZ-ofZ}
 use mir.Syntax.{w64}
 use mir.Val.{SFits, toZ, ofZ}
@@ -55,7 +55,7 @@ use Rattle.table.proofs.Laws.Build.{build-of}
 use Rattle.table.proofs.Laws.Fit.{FitRow, isFit→, fit→}
 use Rattle.drawing.specs.Draw.{leafRow, hasTree, isDrawable, drawRefusal, drawText}
 use Rattle.drawing.specs.Gathered.{textCap}
-use Rattle.drawing.proofs.Laws.Front.{Front, front-of-stored}
+use Rattle.drawing.proofs.Laws.Front.{Front, front-of-append, front-of-stored}
 use Rattle.drawing.proofs.Laws.Outcome.{drawnText, Drawable, drawable, text-fits, text-refused, text-drawn}
 use Rattle.report.specs.Words.{refusedLine, treeLine}
 use Rattle.report.specs.Line.{lineCap, drawnLine, tableLine, builtLine, lineOf, lineInto}
@@ -163,14 +163,7 @@ module _ (t : Table) (room : List ℕ) {l : List ℕ} {a : Answer} (long : lengt
           let out = drawnText t in
           let q = text-done e in
           let told : n ≡ length out = let s = q .0 in cc in
-          let rest = drop (length out) room in (
-            refl,
-            record {
-              told = told;
-              front = ap (take n) (q .1) ∙ take-at out rest n (sym told);
-              fits = omega (arith, ap length (q .1), length-append out rest);
-            },
-          )
+          (refl, front-of-append out (drop (length out) room) (q .1) told)
 
 -- ---- the line of a list, by what its build sends back
 

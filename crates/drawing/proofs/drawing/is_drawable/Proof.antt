@@ -8,7 +8,7 @@ use borrow.Author.Tests.{not-true, not-false}
 use Rattle.table.specs.View.{rowCap, resultAt}
 use Rattle.drawing.specs.Marked.{scoredTo}
 use Rattle.drawing.proofs.Laws.Draw.{rows-capped, degree-some, drawable-unscored, drawable-no-tree, drawable-tree}
-use Rattle.drawing.proofs.Laws.Gathered.{held-size, held-length}
+use Rattle.drawing.proofs.Laws.Front.{front-count, front-of-holds}
 use Rattle.drawing.proofs.drawing.is_drawable.Statement.{statement}
 use Rattle.drawing.proofs.drawing.is_drawable.Tie as tie
 
@@ -52,10 +52,10 @@ leaf-members-requires : tie.Need-leaf-members-requires
 leaf-members-requires c κs = let start = first-start c in (start .pre .0, omega (arith, start .pre .1))
 
 array-share-prefix-xs : tie.Need-array-share-prefix-xs
-array-share-prefix-xs c = held-size (c .before .leaf-members .ensures)
+array-share-prefix-xs c = front-of-holds (c .before .leaf-members .ensures) .fits
 
 slice-aggregate-is-tree : tie.Need-slice-aggregate-is-tree
-slice-aggregate-is-tree c = held-length (c .before .before .leaf-members .ensures)
+slice-aggregate-is-tree c = front-count (front-of-holds (c .before .before .leaf-members .ensures))
 
 leaf-set-requires : tie.Need-leaf-set-requires
 leaf-set-requires c κs = search needs
