@@ -4,12 +4,13 @@
 --     rescored-drawn-iff       and a tree is drawn exactly where it has one, so that 8 is never sent back
 --     rescored-drawTree, rescored-drawText     the first heaviest tree of the changed list
 -- Assumes nothing.
-use mathlib.Core.Path.{_≡_, ap, _∙_, sym}
+use mathlib.Core.Path.{_≡_, sym, subst}
 use mathlib.Core.Logic.{_≢_, _↔_}
 use mathlib.Core.Option.{none, some}
 use mathlib.Core.List.{List, []}
 use Prim.Native.Nat.{ℕ}
 use Rattle.cluster.specs.declared.refusal.Refusal.the-variants.{NoTree}
+use Rattle.cluster.specs.Writing.{Wrote}
 use Rattle.trees.specs.Rows.{Row}
 use Rattle.trees.specs.Heaviest.{firstHeaviest}
 use Rattle.table.specs.declared.table.Table.{Table}
@@ -34,24 +35,30 @@ module _ (l : List ℕ) (d : ℕ) (xs : List Row) (k : AcceptedBytes l d) where
   kept : AcceptedBytes changed d
   kept = changes-accepted l d xs k
 
-  is-build : after ≡ buildTable changed d .table
-  is-build = rescore-all-is-build l d xs k
+  abbrev trees : List (List ℕ)
+  trees = treesOf d (rowsOf changed)
 
-  pub rescored-refused-iff : (drawRefusal after ≡ some NoTree) ↔ (treesOf d (rowsOf changed) ≡ [])
+  -- what is said of the fresh build is said of the table after the changes
+  as-built : (P : Table → Type 0) → P (buildTable changed d .table) → P after
+  as-built P h = subst P (sym (rescore-all-is-build l d xs k)) h
+
+  pub rescored-refused-iff : (drawRefusal after ≡ some NoTree) ↔ (trees ≡ [])
   rescored-refused-iff =
-      let q = build-refused-iff changed d (kept .byte) (kept .accepted) in
-      (λ e. q .0 (sym (ap drawRefusal is-build) ∙ e), λ e. ap drawRefusal is-build ∙ q .1 e)
+      as-built (λ (t : Table). (drawRefusal t ≡ some NoTree) ↔ (trees ≡ [])) (build-refused-iff changed d (kept .byte) (kept .accepted))
 
-  pub rescored-drawn-iff : (drawRefusal after ≡ none) ↔ (treesOf d (rowsOf changed) ≢ [])
+  pub rescored-drawn-iff : (drawRefusal after ≡ none) ↔ (trees ≢ [])
   rescored-drawn-iff =
-      let q = build-drawn-iff changed d (kept .byte) (kept .accepted) in
-      (λ e. q .0 (sym (ap drawRefusal is-build) ∙ e), λ n. ap drawRefusal is-build ∙ q .1 n)
+      as-built (λ (t : Table). (drawRefusal t ≡ none) ↔ (trees ≢ [])) (build-drawn-iff changed d (kept .byte) (kept .accepted))
 
   module _ (room : List ℕ) where
-    pub rescored-drawTree : drawTree after room ≡ treeDrawn (firstHeaviest (rowsOf changed) (treesOf d (rowsOf changed))) ascending room
-    rescored-drawTree = ap (λ (t : Table). drawTree t room) is-build ∙ build-drawTree changed d (kept .byte) (kept .accepted) room
+    abbrev drawn : (List ℕ → List ℕ) → Wrote
+    drawn show = treeDrawn (firstHeaviest (rowsOf changed) trees) show room
 
-    pub rescored-drawText : drawText after room
-        ≡ treeDrawn (firstHeaviest (rowsOf changed) (treesOf d (rowsOf changed)))
-        (λ (ys : List ℕ). textOf ys (leaves (rowsOf changed))) room
-    rescored-drawText = ap (λ (t : Table). drawText t room) is-build ∙ build-drawText changed d (kept .byte) (kept .accepted) room
+    pub rescored-drawTree : drawTree after room ≡ drawn ascending
+    rescored-drawTree =
+        as-built (λ (t : Table). drawTree t room ≡ drawn ascending) (build-drawTree changed d (kept .byte) (kept .accepted) room)
+
+    pub rescored-drawText : drawText after room ≡ drawn (λ (ys : List ℕ). textOf ys (leaves (rowsOf changed)))
+    rescored-drawText =
+        as-built (λ (t : Table). drawText t room ≡ drawn (λ (ys : List ℕ). textOf ys (leaves (rowsOf changed))))
+        (build-drawText changed d (kept .byte) (kept .accepted) room)

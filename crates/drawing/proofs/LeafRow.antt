@@ -14,7 +14,7 @@ use mathlib.Core.Path.{_≡_, refl, sym, ap, ap₂, _∙_, subst}
 use mathlib.Core.Logic.{_≢_, _↔_}
 use mathlib.Core.Bool.{not}
 use mathlib.Core.Option.{Option, none, some}
-use mathlib.Core.List.{List, [], _∷_, map, Memᴰ·map, Memᴰ·of-map}
+use mathlib.Core.List.{List, [], map, map-id, Memᴰ·map, Memᴰ·of-map}
 use mathlib.Core.List.{List·Memᴰ as Mem}
 use Prim.Native.Nat.{ℕ, _≤_, _<_}
 use native.Mathlib.Nat.{min-eq-left}
@@ -25,6 +25,7 @@ use lib.ListN.{length, length-map}
 use Rattle.laws.specs.Cluster.{unionOf}
 use Rattle.laws.specs.Limits.{narrow}
 use Rattle.laws.specs.Lists.{elem}
+use Rattle.laws.proofs.Appended.{map-through}
 use Rattle.laws.proofs.Keep.{elem→, →elem, nil-of-none}
 use Rattle.laws.proofs.Tests.{T-and, and-T, neq→, →neq}
 use Rattle.trees.specs.Rows.{Row, clustersOf, scoredIn, Entry, cl}
@@ -87,15 +88,14 @@ module _ (d : ℕ) (rs : List Row) (k : Accepted d rs) where
   pub shown-is : shownRows t ≡ t .rows
   shown-is = min-eq-left capped
 
-  rows-built : (l : List Row) → map (λ (e : Entry Result). e .row) (map entry l) ≡ l
-  rows-built [] = refl
-  rows-built (r ∷ l) = ap (λ (q : List Row). r ∷ q) (rows-built l)
-
   clusters-built : map cl (entriesOf t (t .rows)) ≡ clustersOf rs
-  clusters-built = ap (map cl) (entries-table d (builtTable narrow d rs)) ∙ clusters-of-rows (λ (r : Row). builtResult narrow d rs r) rs
+  clusters-built = ap (map cl) (entries-table d (builtTable narrow d rs)) ∙ map-through entry cl (λ (r : Row). r .cluster) (λ r. refl) rs
 
   pub rows-are : map (λ (e : Entry Result). e .row) (entriesOf t (t .rows)) ≡ rs
-  rows-are = ap (map (λ (e : Entry Result). e .row)) (entries-table d (builtTable narrow d rs)) ∙ rows-built rs
+  rows-are =
+      ap (map (λ (e : Entry Result). e .row)) (entries-table d (builtTable narrow d rs))
+      ∙ map-through entry (λ (e : Entry Result). e .row) (λ (r : Row). r) (λ r. refl) rs
+      ∙ map-id rs
 
   pub clusters-down : clustersDown (t .clusters) (t .rows) ≡ clustersOf rs
   clusters-down = sym (clusters-are t (t .rows)) ∙ clusters-built

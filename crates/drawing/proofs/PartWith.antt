@@ -6,18 +6,17 @@
 use mathlib.Core.Path.{_≡_, refl, sym, ap, _∙_}
 use mathlib.Core.Bool.{Bool, true, false, cond, _&&_}
 use mathlib.Core.List.{List}
-use Prim.Native.Nat.{ℕ, suc, _+_, _*_, _%_, _^_, _≤_, _<_, max}
+use Prim.Native.Nat.{ℕ, _+_, _*_, _%_, _^_, _≤_, _<_, max}
 use native.Mathlib.Nat.{one-mul}
-use native.Mathlib.Numerals.{add-one}
 use native.Mathlib.Omega.{arith}
 use lib.Dec.{lit<}
 use lib.ListN.{length, getD, drop, drop-of-length-le}
 use lib.Pow.{shl-exact}
-use lib.Seq.{drop-cons}
 use Rattle.laws.specs.Cluster.{inside, strict}
 use Rattle.laws.specs.Lists.{keepIf, keep}
 use Rattle.trees.specs.Heaviest.{largest}
 use Rattle.drawing.specs.Parts.{childWith}
+use Rattle.drawing.proofs.Laws.Scan.{drop-more}
 
 -- ---- one member
 
@@ -60,9 +59,7 @@ module _ (xs : List ℕ) (C t : ℕ) where
   child-more : (best i : ℕ) → i < length xs → childFrom best i ≡ childFrom (cond (has (getD xs i 0)) (max best (getD xs i 0)) best) (i + 1)
   child-more best i h =
       let k = getD xs i 0 in
-      ap (λ (l : List ℕ). max best (largest (keep has l))) (drop-cons xs i 0 h)
-      ∙ larger-kept (has k) best k (keep has (drop (suc i) xs))
-      ∙ ap (λ (n : ℕ). childFrom (cond (has k) (max best k) best) n) (sym (add-one i))
+      ap (λ (l : List ℕ). max best (largest (keep has l))) (drop-more xs i h) ∙ larger-kept (has k) best k (keep has (drop (i + 1) xs))
 
   -- the code's own bit is the cluster of the taxon
   pub child-turn : (best i r : ℕ) → t < 64 → i < length xs

@@ -1,4 +1,5 @@
 -- Loops over a list, over any test p: what the elements from place i on say is what all of them say.
+--     drop-more             the elements from place i on are the one at i and those from the next place on
 --     EveryFrom p l i       all pass where all from place i on do
 --     SomeFrom p l i        one passes where one from place i on does
 --     CountFrom p l n i     n and those from place i on that pass are all that pass
@@ -17,8 +18,7 @@ use lib.Seq.{drop-cons}
 use Rattle.laws.specs.Lists.{keepIf, keep, every, some}
 use Rattle.laws.proofs.Keep.{length-keep-le}
 
--- the elements from place i on are the one at i and those from the next place on
-drop-more : (l : List ℕ) (i : ℕ) → i < length l → drop i l ≡ getD l i 0 ∷ drop (i + 1) l
+pub drop-more : (l : List ℕ) (i : ℕ) → i < length l → drop i l ≡ getD l i 0 ∷ drop (i + 1) l
 drop-more l i h = rw (add-one i, drop-cons l i 0 h)
 
 pub record EveryFrom (p : ℕ → Bool) (l : List ℕ) (i : ℕ) : Type 0 where
