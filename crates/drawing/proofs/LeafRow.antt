@@ -41,7 +41,6 @@ use Rattle.table.specs.View.{rowCap, resultAt, entryAt, entriesOf, tableOf}
 use Rattle.table.specs.Rows.{shownRows, unionTo, leafSet}
 use Rattle.table.specs.Searched.{clustersDown, Rising}
 use Rattle.table.proofs.FitTables.{Accepted, built-fit}
-use Rattle.table.proofs.Laws.Build.{clusters-of-rows}
 use Rattle.table.proofs.Laws.Column.{mem-entries}
 use Rattle.table.proofs.Laws.Fit.{isFit→}
 use Rattle.table.proofs.Laws.Marks.{clusters-are}

@@ -54,10 +54,7 @@ ends-of-holds c t fit h =
 -- ---- the built table
 
 module _ (l : List ℕ) (d : ℕ) (byte : (i : ℕ) → getD l i 0 < byteValues) (a : Accepted l d) where
-  abbrev built : Table
-  built = buildTable l d .table
-
-  quick-is : tableOf d (quickRows d (rowsOf l)) ≡ built
+  quick-is : tableOf d (quickRows d (rowsOf l)) ≡ buildTable l d .table
   quick-is = ap (tableOf d) (quick-built d (rowsOf l) (accepted-facts l d byte a)) ∙ sym (built-table l d a)
 
 -- ---- the theorems
