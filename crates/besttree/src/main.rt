@@ -1,5 +1,5 @@
-// besttree: reads one list of cluster records from standard input, no more than 1,537 bytes, and prints a line for each of the degree bounds
-// 3, 4 and 5. What a line says is promised by the crate `report`.
+// besttree: reads one list of cluster records from standard input, no more than 1,537 bytes, and prints a line for each of the degree
+// bounds 3, 4 and 5. What a line says is promised by the crate `report`.
 use cluster::Answer;
 use libc::STDIN_FILENO;
 use libc::STDOUT_FILENO;
