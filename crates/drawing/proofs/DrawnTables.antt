@@ -6,20 +6,21 @@
 --     drawTree-none, drawText-none     what is sent back where there is none
 --     drawTree-is, drawText-is         and where xs is the first heaviest tree, in any room
 --     treeDrawn, drawTree-built, drawText-built     both in one: what is drawn, by the first heaviest tree if there is one
+--     enough                 what is put into a room that is long enough
 --     listMax                the most clusters that a tree has
 --     drawTree-fits, drawText-fits     a room of so many numbers, or 148 bytes, is always enough
 -- Assumes nothing.
 use mathlib.Core.Path.{_≡_, refl, sym, ap, ap₂, _∙_}
 use mathlib.Core.Logic.{_⊎_, inl, inr, _≢_, _↔_}
-use mathlib.Core.Bool.{not, cond}
+use mathlib.Core.Bool.{true}
 use mathlib.Core.Option.{Option, none, some, Option·none-ne-some, Option·some-injective}
 use mathlib.Core.List.{List, [], _∷_, _++_, cons-ne-nil}
 use Prim.Native.Nat.{ℕ, _-_, _*_, _≤_}
 use native.Mathlib.Omega.{arith}
-use lib.Dec.{T, leb, le→leb, lit≤, T-not, not-T}
+use lib.Dec.{leb, le→leb, lit≤}
 use lib.ListN.{length, drop}
 use Rattle.laws.specs.Limits.{narrow}
-use Rattle.laws.proofs.Tests.{cond-true, cond-false}
+use Rattle.laws.proofs.Tests.{T-true, T-false, cond-true}
 use Rattle.cluster.specs.declared.refusal.Answer.the-variants.{Done, Refused}
 use Rattle.cluster.specs.declared.refusal.Refusal.{Refusal}
 use Rattle.cluster.specs.declared.refusal.Refusal.the-variants.{NoTree, Unfit}
@@ -31,13 +32,14 @@ use Rattle.trees.proofs.Rows.{givenOf}
 use Rattle.trees.proofs.Theorems.{none-iff}
 use Rattle.trees.proofs.TreeFacts.{Given}
 use Rattle.table.specs.declared.table.Table.{Table}
-use Rattle.table.specs.Rows.{leafSet}
 use Rattle.table.specs.Fit.{isFit}
 use Rattle.table.proofs.FitTables.{Accepted, built-fit}
-use Rattle.drawing.specs.Draw.{hasTree, membersOf, isDrawable}
+use Rattle.drawing.specs.Draw.{hasTree, isDrawable}
 use Rattle.drawing.specs.Draw.{drawRefusal, putInto, drawnAs, drawTree, drawText}
 use Rattle.drawing.specs.Drawn.{ascending, textOf}
 use Rattle.drawing.proofs.Backward.{text-reverse}
+use Rattle.drawing.proofs.Laws.Draw.{refusal-no-tree, refusal-none}
+use Rattle.drawing.proofs.Laws.Outcome.{tree-refused, text-refused}
 use Rattle.drawing.proofs.Theorems.{TreeOn, trees-on, text-length-narrow, list-length-le}
 use Rattle.drawing.proofs.LeafRow.{builtFrom, leaves, treesOf, leaf-set-is, has-tree-iff}
 use Rattle.drawing.proofs.LeafTree.{first-tree, is-tree, members-back, members-are, listed, drawable}
@@ -55,22 +57,7 @@ empty-or : {A : Type 0} (l : List A) → (l ≡ []) ⊎ (l ≢ [])
 empty-or [] = inl refl
 empty-or (x ∷ xs) = inr (cons-ne-nil x xs)
 
--- ---- any table
-
-module _ (t : Table) (fit : T (isFit t)) where
-  fits-first : {x : Option Refusal} → cond (not (isFit t)) (some Unfit) x ≡ x
-  fits-first {x} = cond-false (not (isFit t)) (some Unfit) x (λ n. T-not (isFit t) n fit)
-
-  no-tree : (T (hasTree t) → ⊥) → drawRefusal t ≡ some NoTree
-  no-tree n = fits-first ∙ cond-true (not (hasTree t)) _ _ (not-T (hasTree t) n)
-
-  a-tree : T (hasTree t) → T (isDrawable t) → drawRefusal t ≡ none
-  a-tree h k =
-      fits-first
-      ∙ cond-false (not (hasTree t)) _ _ (λ n. T-not (hasTree t) n h)
-      ∙ cond-false (not (isDrawable t)) _ _ (λ n. T-not (isDrawable t) n k)
-
-enough : (out l : List ℕ) → length out ≤ length l → putInto out l ≡ wroteOf (Done (length out)) (out ++ drop (length out) l)
+pub enough : (out l : List ℕ) → length out ≤ length l → putInto out l ≡ wroteOf (Done (length out)) (out ++ drop (length out) l)
 enough out l h = cond-true (leb (length out) (length l)) _ _ (le→leb (length out) (length l) h)
 
 -- ---- a built table
@@ -84,11 +71,16 @@ module _ (d : ℕ) (rs : List Row) (k : Accepted d rs) where
 
   -- ---- whether a tree is drawn
 
+  is-fit : isFit t ≡ true
+  is-fit = T-true (isFit t) (built-fit d rs k)
+
   no-trees : treesOf d rs ≡ [] → drawRefusal t ≡ some NoTree
-  no-trees e = no-tree t (built-fit d rs k) (λ h. has-tree-iff d rs k .0 h e)
+  no-trees e = refusal-no-tree t is-fit (T-false (hasTree t) (λ h. has-tree-iff d rs k .0 h e))
 
   some-tree : treesOf d rs ≢ [] → drawRefusal t ≡ none
-  some-tree n = let q = first-tree d rs k n in a-tree t (built-fit d rs k) (has-tree-iff d rs k .1 n) (drawable d rs k (q .0) (q .1))
+  some-tree n =
+      let q = first-tree d rs k n in
+      refusal-none t is-fit (T-true (hasTree t) (has-tree-iff d rs k .1 n)) (T-true (isDrawable t) (drawable d rs k (q .0) (q .1)))
 
   pub refused-iff : (drawRefusal (builtFrom d rs) ≡ some NoTree) ↔ (treesOf d rs ≡ [])
   refused-iff = (λ e. go e (empty-or (treesOf d rs)), no-trees)
@@ -114,12 +106,10 @@ module _ (d : ℕ) (rs : List Row) (k : Accepted d rs) where
 
   module _ (none-there : treesOf d rs ≡ []) (l : List ℕ) where
     pub drawTree-none : drawTree (builtFrom d rs) l ≡ wroteOf (Refused NoTree) l
-    unfolding drawTree
-    drawTree-none = ap (λ (x : Option Refusal). drawnAs x (membersOf t) l) (no-trees none-there)
+    drawTree-none = sym (tree-refused t l (no-trees none-there))
 
     pub drawText-none : drawText (builtFrom d rs) l ≡ wroteOf (Refused NoTree) l
-    unfolding drawText
-    drawText-none = ap (λ (x : Option Refusal). drawnAs x (textOf (membersOf t) (leafSet t)) l) (no-trees none-there)
+    drawText-none = sym (text-refused t l (no-trees none-there))
 
   module _ (xs : List ℕ) (found : firstHeaviest rs (treesOf d rs) ≡ some xs) (l : List ℕ) where
     draws : drawRefusal t ≡ none
@@ -152,21 +142,20 @@ module _ (d : ℕ) (rs : List Row) (k : Accepted d rs) where
   -- ---- both in one
 
   module _ (l : List ℕ) where
-    first-none : firstHeaviest rs (treesOf d rs) ≡ none → treesOf d rs ≡ []
-    first-none = none-iff (narrow .taxa) d rs (k .facts) (leaves rs) .0
+    -- what is drawn where there is none, and where xs is the first heaviest
+    by-first : (w : Wrote) (out : List ℕ → List ℕ) → (treesOf d rs ≡ [] → w ≡ wroteOf (Refused NoTree) l)
+        → ((xs : List ℕ) → firstHeaviest rs (treesOf d rs) ≡ some xs → w ≡ putInto (out xs) l)
+        → w ≡ treeDrawn (firstHeaviest rs (treesOf d rs)) out l
+    by-first w out f g = go (firstHeaviest rs (treesOf d rs)) refl
+      where
+        go : (x : Option (List ℕ)) → firstHeaviest rs (treesOf d rs) ≡ x → w ≡ treeDrawn x out l
+        go none e = f (none-iff (narrow .taxa) d rs (k .facts) (leaves rs) .0 e)
+        go (some xs) e = g xs e
 
     pub drawTree-built : drawTree (builtFrom d rs) l ≡ treeDrawn (firstHeaviest rs (treesOf d rs)) ascending l
-    drawTree-built = go (firstHeaviest rs (treesOf d rs)) refl
-      where
-        go : (x : Option (List ℕ)) → firstHeaviest rs (treesOf d rs) ≡ x → drawTree t l ≡ treeDrawn x ascending l
-        go none e = drawTree-none (first-none e) l
-        go (some xs) e = drawTree-is xs e l
+    drawTree-built = by-first (drawTree t l) ascending (λ n. drawTree-none n l) (λ xs e. drawTree-is xs e l)
 
     pub drawText-built : drawText (builtFrom d rs) l
         ≡ treeDrawn (firstHeaviest rs (treesOf d rs)) (λ (xs : List ℕ). textOf xs (leaves rs)) l
-    drawText-built = go (firstHeaviest rs (treesOf d rs)) refl
-      where
-        go : (x : Option (List ℕ)) → firstHeaviest rs (treesOf d rs) ≡ x
-            → drawText t l ≡ treeDrawn x (λ (xs : List ℕ). textOf xs (leaves rs)) l
-        go none e = drawText-none (first-none e) l
-        go (some xs) e = drawText-is xs e l
+    drawText-built =
+        by-first (drawText t l) (λ (xs : List ℕ). textOf xs (leaves rs)) (λ n. drawText-none n l) (λ xs e. drawText-is xs e l)

@@ -12,7 +12,6 @@
 -- Assumes nothing.
 use mathlib.Core.Path.{_≡_, refl, sym, ap, ap₂, _∙_, subst}
 use mathlib.Core.Logic.{_≢_, _↔_}
-use mathlib.Core.Bool.{not}
 use mathlib.Core.Option.{Option, none, some}
 use mathlib.Core.List.{List, [], map, map-id, Memᴰ·map, Memᴰ·of-map}
 use mathlib.Core.List.{List·Memᴰ as Mem}
@@ -20,14 +19,14 @@ use Prim.Native.Nat.{ℕ, _≤_, _<_}
 use native.Mathlib.Nat.{min-eq-left}
 use native.Mathlib.Decide.{decLt}
 use native.Mathlib.Omega.{arith}
-use lib.Dec.{T, eqb, ltb, ltb→lt, lt→ltb, lit≤}
+use lib.Dec.{T, ltb, ltb→lt, lt→ltb, lit≤}
 use lib.ListN.{length, length-map}
 use Rattle.laws.specs.Cluster.{unionOf}
 use Rattle.laws.specs.Limits.{narrow}
 use Rattle.laws.specs.Lists.{elem}
 use Rattle.laws.proofs.Appended.{map-through}
 use Rattle.laws.proofs.Keep.{elem→, →elem, nil-of-none}
-use Rattle.laws.proofs.Tests.{T-and, and-T, neq→, →neq}
+use Rattle.laws.proofs.Tests.{true-T}
 use Rattle.trees.specs.Rows.{Row, clustersOf, scoredIn, Entry, cl}
 use Rattle.trees.specs.Tree.{treesOn}
 use Rattle.trees.specs.Heaviest.{firstHeaviest}
@@ -47,6 +46,7 @@ use Rattle.table.proofs.Laws.Marks.{clusters-are}
 use Rattle.table.proofs.Laws.Rows.{placeOf-first, hasRow-is, unionTo-is}
 use Rattle.table.proofs.Laws.View.{entries-table, table-sized}
 use Rattle.drawing.specs.Draw.{leafRow, hasTree}
+use Rattle.drawing.proofs.Laws.Draw.{hasTree→, hasTree-count}
 
 abbrev pub builtFrom : ℕ → List Row → Table
 builtFrom d rs = tableOf d (builtTable narrow d rs)
@@ -56,18 +56,6 @@ leaves rs = unionOf (clustersOf rs)
 
 abbrev pub treesOf : ℕ → List Row → List (List ℕ)
 treesOf d rs = treesOn (narrow .taxa) d (scoredIn rs) (leaves rs)
-
--- ---- the test as facts
-
-has-tree→ : (t : Table) → T (hasTree t) → (leafRow t < t .rows) × (resultAt t (leafRow t) .count ≢ 0)
-has-tree→ t h =
-    let q = T-and (ltb (leafRow t) (t .rows)) (not (eqb (resultAt t (leafRow t) .count) 0)) h in
-    (ltb→lt (leafRow t) (t .rows) (q .0), neq→ (resultAt t (leafRow t) .count) 0 (q .1))
-
-→has-tree : (t : Table) → leafRow t < t .rows → resultAt t (leafRow t) .count ≢ 0 → T (hasTree t)
-→has-tree t h n =
-    and-T (ltb (leafRow t) (t .rows)) (not (eqb (resultAt t (leafRow t) .count) 0)) (lt→ltb (leafRow t) (t .rows) h)
-    (→neq (resultAt t (leafRow t) .count) 0 n)
 
 -- ---- the rows of the table
 
@@ -171,8 +159,8 @@ module _ (d : ℕ) (rs : List Row) (k : Accepted d rs) where
   has-tree-iff = (to, λ n. from n (decLt (leafRow t) (t .rows)))
     where
       to : T (hasTree t) → treesOf d rs ≢ []
-      to h e = let q = has-tree→ t h in q .1 (leaf-count (q .0) ∙ count-zero .1 e)
+      to h e = let q = hasTree→ t h in q .1 (leaf-count (q .0) ∙ count-zero .1 e)
 
       from : treesOf d rs ≢ [] → Dec (leafRow t < t .rows) → T (hasTree t)
-      from n (yes h) = →has-tree t h (λ e. n (count-zero .0 (sym (leaf-count h) ∙ e)))
+      from n (yes h) = true-T (hasTree-count t (leafRow t) refl h (λ e. n (count-zero .0 (sym (leaf-count h) ∙ e))))
       from n (no f) = absurd (n (nil-of-none (treesOf d rs) (λ xs m. f (leaf-listed xs m))))

@@ -4,17 +4,17 @@
 --     told→               what is drawn from a fit table is the outcome
 -- Assumes nothing.
 use mathlib.Core.Path.{_≡_, refl, sym, ap, ap₂, _∙_, subst}
-use mathlib.Core.Bool.{Bool, true, false, not, cond, _&&_}
+use mathlib.Core.Bool.{not, _&&_}
 use mathlib.Core.Option.{Option, none, some}
 use mathlib.Core.List.{List, [], _∷_}
 use Prim.Native.Nat.{ℕ, zero, suc, _≤_, _<_}
-use lib.Dec.{T, eqb, eqb→eq, leb, le→leb, ltb→lt, lit<, T-not}
+use lib.Dec.{T, eqb, eqb→eq, ltb→lt, lit<, T-not}
 use lib.ListN.{length, getD}
 use Rattle.laws.specs.Lists.{every}
-use Rattle.laws.proofs.Tests.{T-and, T-true, T-false, cond-true}
+use Rattle.laws.proofs.Tests.{T-and, T-true, T-false}
 use Rattle.cluster.specs.declared.record.Record.{Record}
 use Rattle.cluster.specs.declared.refusal.Refusal.{Refusal}
-use Rattle.cluster.specs.declared.refusal.Refusal.the-variants.{NoTree, Unfit}
+use Rattle.cluster.specs.declared.refusal.Refusal.the-variants.{NoTree}
 use Rattle.cluster.specs.Bytes.{byteValues}
 use Rattle.cluster.specs.Refusal.{numberOf}
 use Rattle.table.specs.declared.table.Table.{Table}
@@ -26,6 +26,8 @@ use Rattle.table.proofs.Laws.Rescore.{rescore-done}
 use Rattle.drawing.specs.Drawn.{textOf}
 use Rattle.drawing.specs.Draw.{hasTree, membersOf, isSame, isDrawable, drawRefusal, putInto, drawnAs, drawTree, drawText}
 use Rattle.drawing.proofs.Cases.{bytesOf as characters}
+use Rattle.drawing.proofs.DrawnTables.{enough}
+use Rattle.drawing.proofs.Laws.Draw.{refusal-no-tree, refusal-none}
 use Rattle.examples.specs.Case.{Drawn, Outcome, refused, drawn}
 use Rattle.examples.specs.Told.{leafResult, written, Said, RowTold, Refuses, Draws, Told}
 use Rattle.examples.specs.Right.{done, rescoredBy}
@@ -71,12 +73,6 @@ rescored-is (some r) t fit h =
 -- ---- what is drawn
 
 module _ (u : Table) (fit : T (isFit u)) where
-  abbrev refusalBy : Bool → Bool → Bool → Option Refusal
-  refusalBy a b c = cond (not a) (some Unfit) (cond (not b) (some NoTree) (cond (not c) (some Unfit) none))
-
-  refusal-is : (b : Bool) → hasTree u ≡ b → drawRefusal u ≡ refusalBy true b (isDrawable u)
-  refusal-is b e = ap₂ (λ (x y : Bool). refusalBy x y (isDrawable u)) (T-true (isFit u) fit) e
-
   abbrev text : List ℕ
   text = textOf (membersOf u) (leafSet u)
 
@@ -90,18 +86,17 @@ module _ (u : Table) (fit : T (isFit u)) where
 
   refuses→ : (T (hasTree u) → ⊥) → Refuses u (numberOf NoTree)
   refuses→ h =
-      let e = refusal-is false (T-false (hasTree u) h) in
+      let e = refusal-no-tree u (T-true (isFit u) fit) (T-false (hasTree u) h) in
       record { tree = λ l. tree-of l e; text = λ l. text-of l e }
 
   -- room for the whole output
   put-written : (out xs l : List ℕ) → out ≡ xs → length xs ≤ length l → putInto out l ≡ written xs l
-  put-written out xs l e h =
-      ap (λ (o : List ℕ). putInto o l) e ∙ cond-true (leb (length xs) (length l)) _ _ (le→leb (length xs) (length l) h)
+  put-written out xs l e h = ap (λ (o : List ℕ). putInto o l) e ∙ enough xs l h
 
   none-refused : T (hasTree u && isDrawable u) → drawRefusal u ≡ none
   none-refused h =
       let q = T-and (hasTree u) (isDrawable u) h in
-      refusal-is true (T-true (hasTree u) (q .0)) ∙ ap (refusalBy true true) (T-true (isDrawable u) (q .1))
+      refusal-none u (T-true (isFit u) fit) (T-true (hasTree u) (q .0)) (T-true (isDrawable u) (q .1))
 
   row-told→ : (x : Drawn) → T (hasRowTold u x) → RowTold u x
   row-told→ x h =

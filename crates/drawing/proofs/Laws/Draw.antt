@@ -3,6 +3,7 @@
 --     members-held                 the members, from the marks of a row that is the leaf set's
 --     weighs-less, weighs-other    their weights beside the row's best, as the code compares them: less; else whether it is less
 --     drawable-unscored, drawable-no-tree, drawable-tree     the tests of the marks in turn
+--     hasTree→             the leaf set has a row, and its count isn't 0
 --     hasTree-no-row, hasTree-no-count, hasTree-count        whether there is a tree, in turn
 --     refusal-unfit, refusal-no-tree, refusal-marks, refusal-none     the refusals in turn
 -- Assumes nothing.
@@ -14,7 +15,7 @@ use Prim.Native.Nat.{ℕ, _≤_, _<_}
 use native.Mathlib.Nat.{min-eq-left}
 use native.Mathlib.Omega.{arith}
 use borrow.Author.Tests.{eq-eqb, ne-eqb, lt-ltb, le-ltb}
-use lib.Dec.{eqb, ltb}
+use lib.Dec.{T, eqb, ltb, ltb→lt}
 use lib.IntN.{ℤ}
 use lib.ListN.{take}
 use lib.Signed.{ltZ}
@@ -22,7 +23,7 @@ use mir.Facts.{toZ-ofZ}
 use mir.Syntax.{w64}
 use mir.Val.{SFits, toZ, ofZ}
 use Rattle.laws.specs.Limits.{narrow}
-use Rattle.laws.proofs.Tests.{true-T}
+use Rattle.laws.proofs.Tests.{T-and, true-T, neq→}
 use Rattle.cluster.specs.declared.refusal.Refusal.the-variants.{NoTree, Unfit}
 use Rattle.trees.specs.Tree.{isTree}
 use Rattle.table.specs.declared.table.Table.{Table}
@@ -104,6 +105,11 @@ module _ (t : Table) (fit : isFit t ≡ true) where
       drawable-tree k = tests-are ∙ ap (λ (b : Bool). b && weighsBest t) k
 
 -- ---- whether there is a tree
+pub hasTree→ : (t : Table) → T (hasTree t) → (leafRow t < t .rows) × (resultAt t (leafRow t) .count ≢ 0)
+hasTree→ t h =
+    let q = T-and (ltb (leafRow t) (t .rows)) (not (eqb (resultAt t (leafRow t) .count) 0)) h in
+    (ltb→lt (leafRow t) (t .rows) (q .0), neq→ (resultAt t (leafRow t) .count) 0 (q .1))
+
 module _ (t : Table) (at : ℕ) (e : at ≡ leafRow t) where
   abbrev hasCount : ℕ → Bool
   hasCount i = ltb i (t .rows) && not (eqb (resultAt t i .count) 0)

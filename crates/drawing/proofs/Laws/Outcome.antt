@@ -16,7 +16,7 @@ use mathlib.Core.Option.{Option, none, some}
 use Prim.Native.Nat.{ℕ, _≤_, _<_}
 use native.Mathlib.Omega.{arith}
 use borrow.Author.Tests.{le-leb, lt-leb}
-use lib.Dec.{T, eqb, ltb, ltb→lt}
+use lib.Dec.{T}
 use lib.ListN.{length, take, drop, length-append}
 use lib.Seq.{sets}
 use Rattle.laws.specs.Limits.{narrow}
@@ -28,15 +28,15 @@ use Rattle.cluster.specs.declared.refusal.Refusal.the-variants.{NoTree, Unfit, 
 use Rattle.cluster.specs.Writing.{wroteOf}
 use Rattle.trees.specs.Tree.{isTree}
 use Rattle.table.specs.declared.table.Table.{Table}
-use Rattle.table.specs.View.{resultAt}
 use Rattle.table.specs.Fit.{isFit}
-use Rattle.table.specs.Rows.{shownRows, leafSet}
+use Rattle.table.specs.Rows.{leafSet}
 use Rattle.drawing.specs.Text.{semicolon}
 use Rattle.drawing.specs.Drawn.{textOf}
-use Rattle.drawing.specs.Marked.{scoredTo, weightTo}
-use Rattle.drawing.specs.Draw.{leafRow, hasTree, leafMarks, membersOf, isSame, isDrawable, drawRefusal, drawnAs, drawTree, drawText}
+use Rattle.drawing.specs.Draw.{leafRow, hasTree, membersOf, areScored, weighsBest, isDrawable}
+use Rattle.drawing.specs.Draw.{drawRefusal, drawnAs, drawTree, drawText}
 use Rattle.drawing.specs.Parts.{partBytes}
 use Rattle.drawing.specs.Gathered.{textCap, Writable, Narrow, checkedAs}
+use Rattle.drawing.proofs.Laws.Draw.{hasTree→}
 use Rattle.drawing.proofs.Laws.Front.{Front, front-count, front-of-stored}
 use Rattle.drawing.proofs.Laws.Members.{members-once, members-sound}
 use Rattle.drawing.proofs.Writable.{tree-writable}
@@ -110,21 +110,14 @@ none-holds true false c e = let z : _≡_ {A = ℕ} 0 1 = cc in absurd (omega ar
 none-holds true true false e = let z : _≡_ {A = ℕ} 0 1 = cc in absurd (omega arith)
 
 module _ (t : Table) where
-  abbrev areScored : Bool
-  areScored = scoredTo (t .states) (leafMarks t) (shownRows t)
-
   abbrev areTree : Bool
   areTree = isTree (narrow .taxa) (t .degree) (leafSet t) (membersOf t)
-
-  abbrev areBest : Bool
-  areBest = isSame (weightTo (t .weights) (leafMarks t) (shownRows t)) (resultAt t (leafRow t) .best)
 
   pub drawable : drawRefusal t ≡ none → Drawable t
   drawable e =
       let q = none-holds (isFit t) (hasTree t) (isDrawable t) e in
-      let a = T-and (ltb (leafRow t) (t .rows)) (not (eqb (resultAt t (leafRow t) .count) 0)) (q .1) in
-      let b = T-and areScored areTree (T-and (areScored && areTree) areBest (q .2) .0) in
-      record { fit = T-true (isFit t) (q .0); row = ltb→lt (leafRow t) (t .rows) (a .0); tree = T-true areTree (b .1) }
+      let b = T-and (areScored t) areTree (T-and (areScored t && areTree) (weighsBest t) (q .2) .0) in
+      record { fit = T-true (isFit t) (q .0); row = hasTree→ t (q .1) .0; tree = T-true areTree (b .1) }
 
 module _ {t : Table} (d : Drawable t) where
   pub tree-requires : {s : List ℕ} {n k : ℕ} → Front (membersOf t) n s → n ≤ k → (length (take n s) ≤ k) × Narrow (take n s)
