@@ -1,5 +1,6 @@
 -- The first heaviest tree on the leaf set of a built table is what the marks of its row say, and they may be drawn (document 01, "The
 -- table" and "Drawing it").
+--     same-weights     equal weights pass the test that they are
 --     first-tree       where there is a tree, one of them is the first heaviest
 --     is-tree          it is a tree
 --     leaf-best        the row's marks and best weight are its marks and weight
@@ -47,7 +48,7 @@ use Rattle.drawing.proofs.LeafRow.{builtFrom, leaves, treesOf, shown-is
 use Rattle.drawing.proofs.LeafRow.{leaf-set-is, leaf-result, leaf-listed}
 use Rattle.drawing.proofs.MarkedRows.{Tells, marks-tell, members-tell, scored-tell, weight-tell}
 
-same-weights : (a b : ℤ) → a ≡ b → T (isSame a b)
+pub same-weights : (a b : ℤ) → a ≡ b → T (isSame a b)
 same-weights a b e =
     subst (λ (z : ℤ). T (isSame a z)) e
     (and-T (not (ltZ a a)) (not (ltZ a a)) (not-T (ltZ a a) (ltZ-irrefl a)) (not-T (ltZ a a) (ltZ-irrefl a)))

@@ -11,17 +11,18 @@ use mathlib.Core.List.{List}
 use Prim.Native.Nat.{ℕ, zero, suc, _≤_, _<_}
 use native.Mathlib.Decide.{decLe}
 use native.Mathlib.Omega.{arith}
-use lib.Dec.{T, eqb, eqb→eq, eqb-refl, T-not, not-T}
+use lib.Dec.{T, eqb, eqb→eq, eqb-refl, T-not}
 use lib.IntN.{ℤ}
 use lib.Signed.{ltZ}
 use Rattle.laws.specs.Lists.{elem}
-use Rattle.laws.proofs.Integers.{Tri, tri, ltZ-irrefl}
+use Rattle.laws.proofs.Integers.{Tri, tri}
 use Rattle.laws.proofs.Tests.{T-and, and-T}
 use Rattle.trees.specs.Rows.{Row, Entry}
 use Rattle.trees.specs.Result.{Result}
 use Rattle.table.specs.declared.table.Table.{Table}
 use Rattle.table.specs.View.{rowAt, entryAt}
 use Rattle.drawing.specs.Draw.{isSame}
+use Rattle.drawing.proofs.LeafTree.{same-weights}
 use Rattle.examples.specs.Right.{Changes}
 
 -- ---- integers
@@ -36,9 +37,6 @@ isSame→ a b h = go (tri a b)
     go (Tri.less k) = absurd (T-not (ltZ a b) (q .0) k)
     go (Tri.same e) = e
     go (Tri.more k) = absurd (T-not (ltZ b a) (q .1) k)
-
-is-same-refl : (a : ℤ) → T (isSame a a)
-is-same-refl a = let n = not-T (ltZ a a) (ltZ-irrefl a) in and-T (not (ltZ a a)) (not (ltZ a a)) n n
 
 -- ---- rows
 
@@ -92,10 +90,11 @@ entry-refl e =
     let r = e .row in
     let v = e .val in
     let row = →three (eqb (r .cluster) (r .cluster)) (isSame (r .weight) (r .weight)) (eqb (r .state) (r .state))
-    (eqb-refl (r .cluster)) (is-same-refl (r .weight)) (eqb-refl (r .state)) in
+    (eqb-refl (r .cluster)) (same-weights (r .weight) (r .weight) refl) (eqb-refl (r .state)) in
     let counts = →three (eqb (v .length) (v .length)) (eqb (v .count) (v .count)) (eqb (v .mark) (v .mark))
     (eqb-refl (v .length)) (eqb-refl (v .count)) (eqb-refl (v .mark)) in
-    let best = and-T (isSame (v .best) (v .best)) (eqb (v .members) (v .members)) (is-same-refl (v .best)) (eqb-refl (v .members)) in
+    let best = and-T (isSame (v .best) (v .best)) (eqb (v .members) (v .members))
+    (same-weights (v .best) (v .best) refl) (eqb-refl (v .members)) in
     and-T (isSameRow r r) (isSameCount v v && isSameBest v v) row (and-T (isSameCount v v) (isSameBest v v) counts best)
 
 -- ---- all rows

@@ -1,5 +1,6 @@
 -- The weights of the marked rows, added up in 64 bits: no sum of 128 weights of 32 bits is too large.
 --     Weighed ws m sum i     sum is the bits of the weights of the first i rows added up, and those are near zero
+--     near-fits              a sum of so many weights fits 64 bits
 --     cast-fits              a weight of 32 bits fits 64
 --     weighed-sum            the number that the bits say
 --     weighed-fits           one weight more fits
@@ -30,7 +31,7 @@ pub record Weighed (ws : List ℤ) (m sum i : ℕ) : Type 0 where
   pub bits : sum ≡ ofZ w64 (weightTo ws m i)
   pub near : natAbs (weightTo ws m i) ≤ weightSpan * i
 
-near-fits : (z : ℤ) (i : ℕ) → i ≤ rowCap → natAbs z ≤ weightSpan * i → SFits w64 z
+pub near-fits : (z : ℤ) (i : ℕ) → i ≤ rowCap → natAbs z ≤ weightSpan * i → SFits w64 z
 near-fits z i h k = record { sfits = omega (arith, mag-le-abs z) }
 
 -- ---- a weight of 32 bits as one of 64

@@ -25,8 +25,8 @@ use native.Mathlib.Nat.{le-refl}
 use native.Mathlib.Omega.{arith}
 use borrow.Author.Tests.{le-leb, lt-leb}
 use lib.Count.{ones-le}
-use lib.Dec.{eqb}
-use lib.IntN.{ℤ, pos, negsuc, natAbs}
+use lib.Dec.{eqb, lit≤}
+use lib.IntN.{pos, natAbs}
 use lib.ListN.{length, getD, take, drop}
 use lib.Seq.{sets, sets-eq, take-all}
 use mir.Facts.{toZ-ofZ}
@@ -55,6 +55,7 @@ use Rattle.table.proofs.Laws.Build.{build-of}
 use Rattle.table.proofs.Laws.Fit.{FitRow, isFit→, fit→}
 use Rattle.drawing.specs.Draw.{leafRow, hasTree, isDrawable, drawRefusal, drawText}
 use Rattle.drawing.specs.Gathered.{textCap}
+use Rattle.drawing.proofs.Laws.Weighed.{near-fits}
 use Rattle.drawing.proofs.Laws.Front.{Front, front-of-append, front-of-stored}
 use Rattle.drawing.proofs.Laws.Outcome.{drawnText, Drawable, drawable, text-fits, text-refused, text-drawn}
 use Rattle.report.specs.Words.{refusedLine, treeLine}
@@ -65,10 +66,6 @@ use Rattle.report.proofs.Laws.Words.{treeLine-length-le, refusedLine-le
 
 pub size-le-narrow : (c : ℕ) → c < 2 ^ narrow .taxa → size c ≤ 32
 size-le-narrow c h = ones-le 32 c h
-
-light-fits : (z : ℤ) → natAbs z ≤ 63000000 → SFits w64 z
-light-fits (pos n) h = record { sfits = omega arith }
-light-fits (negsuc n) h = record { sfits = omega arith }
 
 module _ {t : Table} (d : Drawable t) where
   leaf-row : FitRow narrow (map cl (entriesOf t (t .rows))) (rowAt t (leafRow t)) (resultAt t (leafRow t))
@@ -88,7 +85,7 @@ module _ {t : Table} (d : Drawable t) where
       go (no n) = omega (arith, leaf-row .told .light n, size-le-narrow (rowAt t (leafRow t) .cluster) (leaf-row .width))
 
   tree-best-fits : SFits w64 (resultAt t (leafRow t) .best)
-  tree-best-fits = light-fits (resultAt t (leafRow t) .best) tree-best-le
+  tree-best-fits = near-fits (resultAt t (leafRow t) .best) 1 (lit≤ tt) (omega (arith, tree-best-le))
 
 -- ---- the line of a table
 
