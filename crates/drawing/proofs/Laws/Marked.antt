@@ -1,52 +1,30 @@
--- The marks of two words, and the marked rows one by one.
---     mark-low, mark-high                        a row's mark stands in the low word or in the high one
+-- The marked rows one by one.
+--     mark-past                                  the mark of a row from 64 on stands in the high word
 --     length-membersTo-le                        there are no more members than rows
 --     membersTo-takes, membersTo-skips           one row more, marked or not
 --     scoredTo-fails, scoredTo-keeps, scoredTo-skips     one row more: marked and not scored, marked and scored, not marked
 --     weightTo-takes, weightTo-skips             one row more, marked or not
 -- Assumes nothing.
-use mathlib.Core.Path.{_≡_, sym, ap, _∙_}
+use mathlib.Core.Path.{_≡_, ap, _∙_}
 use mathlib.Core.Bool.{Bool, true, false, cond, and-true, and-false}
 use mathlib.Core.List.{List, [], _∷_, _++_, append-nil}
-use Prim.Native.Nat.{ℕ, zero, suc, _+_, _-_, _*_, _/_, _%_, _^_, _≤_, _<_}
-use native.Mathlib.Nat.{mul-assoc, div-eq-of-lt, add-mul-div-left, add-mul-mod-self-left}
+use Prim.Native.Nat.{ℕ, zero, suc, _+_, _-_, _*_, _≤_, _<_}
 use native.Mathlib.Numerals.{add-one}
 use native.Mathlib.Omega.{arith}
 use borrow.Author.Tests.{eq-eqb, ne-eqb}
-use lib.Dec.{eqb, lit<}
 use lib.IntN.{ℤ, pos, _+ℤ_, +ℤ-comm, +ℤ-idl}
 use lib.ListN.{length, getD, length-append}
-use lib.Pow.{pow-pos, pow-add, shr-shr}
 use Rattle.trees.specs.Rows.{scored}
 use Rattle.table.specs.View.{wordValues}
 use Rattle.table.specs.Fit.{hasMark}
+use Rattle.table.proofs.Laws.Marks.{mark-high}
 use Rattle.drawing.specs.Marked.{membersTo, scoredTo, weightTo}
 
--- ---- the marks of two words
-module _ (lo hi i : ℕ) where
-  pub mark-high : lo < wordValues → 64 ≤ i → hasMark (lo + wordValues * hi) i ≡ hasMark hi (i - 64)
-  mark-high h k =
-      let m = lo + wordValues * hi in
-      let top : m / 2 ^ 64 ≡ hi = add-mul-div-left lo hi (lit< tt) ∙ ap (λ (x : ℕ). x + hi) (div-eq-of-lt h) ∙ omega arith in
-      let at : i ≡ 64 + (i - 64) = omega arith in
-      ap (hasMark m) at ∙ ap (λ (x : ℕ). eqb (x % 2) 1) (sym (shr-shr m 64 (i - 64)) ∙ ap (λ (x : ℕ). x / 2 ^ (i - 64)) top)
-
-  pub mark-low : i < 64 → hasMark (lo + wordValues * hi) i ≡ hasMark lo i
-  mark-low h = ap (λ (x : ℕ). eqb x 1) (ap (λ (x : ℕ). x % 2) bottom ∙ add-mul-mod-self-left (lo / 2 ^ i) 2 (2 ^ (63 - i) * hi))
-    where
-      word : wordValues ≡ 2 ^ i * (2 * 2 ^ (63 - i))
-      word =
-          ap (λ (k : ℕ). 2 ^ k) (let q : 64 ≡ i + suc (63 - i) = omega arith in q)
-          ∙ pow-add 2 i (suc (63 - i))
-          ∙ ap (λ (x : ℕ). 2 ^ i * x) (omega arith)
-
-      regroup : 2 ^ i * (2 * 2 ^ (63 - i)) * hi ≡ 2 ^ i * (2 * (2 ^ (63 - i) * hi))
-      regroup = simp mul-assoc
-
-      bottom : (lo + wordValues * hi) / 2 ^ i ≡ lo / 2 ^ i + 2 * (2 ^ (63 - i) * hi)
-      bottom =
-          ap (λ (x : ℕ). (lo + x) / 2 ^ i) (ap (λ (x : ℕ). x * hi) word ∙ regroup)
-          ∙ add-mul-div-left lo (2 * (2 ^ (63 - i) * hi)) (pow-pos i)
+-- ---- the marks of the high word
+pub mark-past : (lo hi i : ℕ) → lo < wordValues → 64 ≤ i → hasMark (lo + wordValues * hi) i ≡ hasMark hi (i - 64)
+mark-past lo hi i h k =
+    let at : i ≡ 64 + (i - 64) = omega arith in
+    ap (hasMark (lo + wordValues * hi)) at ∙ mark-high lo hi (i - 64) h
 
 -- ---- the members
 module _ (cs : List ℕ) (m : ℕ) where

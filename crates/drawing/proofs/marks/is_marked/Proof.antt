@@ -2,7 +2,8 @@
 use mathlib.Core.Path.{sym}
 use borrow.Author.Needs.{needs}
 use mir.Facts.{fits-lt-pow}
-use Rattle.drawing.proofs.Laws.Marked.{mark-low, mark-high}
+use Rattle.table.proofs.Laws.Marks.{mark-low}
+use Rattle.drawing.proofs.Laws.Marked.{mark-past}
 use Rattle.drawing.proofs.marks.is_marked.Statement.{statement}
 use Rattle.drawing.proofs.marks.is_marked.Tie as tie
 
@@ -20,7 +21,7 @@ shr-result-2 c = search needs
 returns-2 : tie.Need-returns-2
 returns-2 c =
     let a = c .before .args in
-    sym (mark-high (a .low) (a .high) (a .i) (fits-lt-pow (c .before .fits .low)) (c .if1 .left))
+    sym (mark-past (a .low) (a .high) (a .i) (fits-lt-pow (c .before .fits .low)) (c .if1 .left))
 
 pub is-marked-spec : {M : Type 1} → statement M
 is-marked-spec = tie.close (tie.spec shr-result returns shr-result-2 returns-2)
