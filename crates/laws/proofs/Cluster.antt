@@ -11,7 +11,7 @@
 --     union-apart, union-lt                  a union of what is apart is the sum; below e, if both are below e and apart from it
 --     rest-apart, rest-inside, inside-rest, union-rest, rest-union      R less a part of it, and a union less one of the two
 --     strict→, →strict, Nest, nested→, →nested      strictly inside, and nested or apart, out of the test and into it
---     apart-unionOf, inside-unionOf, unionOf-inside, taxon-of-unionOf, unionOf-lt      the same of unions of lists
+--     apart-unionOf, apart-of-unionOf, inside-unionOf, unionOf-inside, taxon-of-unionOf, unionOf-lt      the same of unions of lists
 --     two-parts                              a union of clusters other than the union has two at least
 -- Assumes nothing.
 use mathlib.Core.Path.{_≡_, refl, sym, ap, ap₂, _∙_, subst, subst₂}
@@ -210,6 +210,10 @@ pub inside-unionOf : (cs : List ℕ) (c : ℕ) → Mem c cs → T (inside c (uni
 inside-unionOf (x ∷ xs) c (here e) = subst (λ (y : ℕ). T (inside y (bitOr x (unionOf xs)))) (sym e) (inside-union-l x (unionOf xs))
 inside-unionOf (x ∷ xs) c (there m) =
     inside-trans c (unionOf xs) (bitOr x (unionOf xs)) (inside-unionOf xs c m) (inside-union-r x (unionOf xs))
+
+-- what is apart from a union is apart from each of its clusters
+pub apart-of-unionOf : (c : ℕ) (cs : List ℕ) → T (apart c (unionOf cs)) → (x : ℕ) → Mem x cs → T (apart c x)
+apart-of-unionOf c cs h x m = apart-of-inside c (unionOf cs) c x h (inside-refl c) (inside-unionOf cs x m)
 
 pub unionOf-inside : (cs : List ℕ) (X : ℕ) → ((c : ℕ) → Mem c cs → T (inside c X)) → T (inside (unionOf cs) X)
 unionOf-inside [] X f = zero-inside X

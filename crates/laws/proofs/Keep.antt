@@ -13,7 +13,7 @@
 -- Assumes nothing.
 use mathlib.Core.Path.{_≡_, refl, sym, ap, ap₂, _∙_, subst}
 use mathlib.Core.Logic.{_⊎_, inl, inr}
-use mathlib.Core.Bool.{Bool, true, false, _&&_, _||_}
+use mathlib.Core.Bool.{Bool, true, false, _&&_, _||_, and-comm}
 use mathlib.Core.List.{List, [], _∷_, _++_, map, Memᴰ·append-left, Memᴰ·append-right, List·Memᴰ·append-cases, Memᴰ·cast}
 use mathlib.Core.List.{List·Memᴰ as Mem, List·Memᴰ·head as here, List·Memᴰ·tail as there, List·Memᴰ·not-nil as mem-nil}
 use Prim.Native.Nat.{ℕ, suc, _≤_, zero-le, suc-le-suc}
@@ -129,13 +129,7 @@ module _ {A : Type 0} where
       ap₂ (λ (b : Bool) (r : List A). keepIf b x r) (T-true (p x) (f x (here refl))) (keep-all p xs (λ y m. f y (there m)))
 
   pub keep-swap : (p q : A → Bool) (l : List A) → keep p (keep q l) ≡ keep q (keep p l)
-  keep-swap p q l = keep-keep p q l ∙ keep-ext (λ x. q x && p x) (λ x. p x && q x) l (λ x m. flip (q x) (p x)) ∙ sym (keep-keep q p l)
-    where
-      flip : (a b : Bool) → (a && b) ≡ (b && a)
-      flip true true = refl
-      flip true false = refl
-      flip false true = refl
-      flip false false = refl
+  keep-swap p q l = keep-keep p q l ∙ keep-ext (λ x. q x && p x) (λ x. p x && q x) l (λ x m. and-comm (q x) (p x)) ∙ sym (keep-keep q p l)
 
   pub length-keep-le : (p : A → Bool) (l : List A) → length (keep p l) ≤ length l
   length-keep-le p [] = zero-le

@@ -27,7 +27,7 @@ use Rattle.laws.proofs.Appended.{map-through}
 use Rattle.laws.proofs.Keep.{→every, keep-ext, keep-map, keep-none}
 use Rattle.laws.proofs.Sublists.{keep-sublists-cons, mem-of-sublist, sublists-map}
 pub use Rattle.laws.proofs.Sublists.{inFront}
-use Rattle.laws.proofs.Cluster.{inside-refl, inside-union-l, apart-of-inside, apart-unionOf, inside-unionOf}
+use Rattle.laws.proofs.Cluster.{inside-union-l, apart-unionOf, apart-of-unionOf}
 use Rattle.laws.proofs.Cluster.{rest-apart, union-rest, union-apart, two-parts}
 use Rattle.trees.specs.Rows.{Entry, cl}
 use Rattle.trees.specs.Tuple.{allApart, isTuple, tuples}
@@ -72,9 +72,7 @@ module _ (n R c : ℕ) (cs : List ℕ) where
   }
     where
       away : (x : ℕ) → Mem x cs → T (apart c x)
-      away x m =
-          apart-of-inside c (R - c) c x (rest-apart c R i) (inside-refl c)
-          (subst (λ (z : ℕ). T (inside x z)) (f .union) (inside-unionOf cs x m))
+      away = apart-of-unionOf c cs (subst (λ (z : ℕ). T (apart c z)) (sym (f .union)) (rest-apart c R i))
 
   pub covers-cons : covers (suc n) R (c ∷ cs) ≡ (inside c R && covers n (R - c) cs)
   covers-cons = bool-ext (covers (suc n) R (c ∷ cs)) (inside c R && covers n (R - c) cs) to from

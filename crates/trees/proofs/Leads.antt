@@ -26,7 +26,7 @@ use Rattle.laws.proofs.Tests.{T-and, and-T, T-false, bool-ext, eq→eqb}
 use Rattle.laws.proofs.Descends.{Descends, descends-first}
 use Rattle.laws.proofs.Keep.{keep-none, keep-swap}
 use Rattle.laws.proofs.Sublists.{mem-of-sublist, sublists-drop}
-use Rattle.laws.proofs.Cluster.{inside-refl, le-of-inside, apart-of-inside, rest-apart, union-rest, unionOf-lt, inside-unionOf}
+use Rattle.laws.proofs.Cluster.{inside-refl, le-of-inside, rest-apart, union-rest, unionOf-lt, inside-unionOf, apart-of-unionOf}
 use Rattle.laws.proofs.Taxa.{highest-le, highest-gt}
 use Rattle.trees.specs.Rows.{Entry, cl, sc}
 use Rattle.trees.proofs.Covers.{covers, cover→, isCover, coversOf, inFront, takeIf, chosen, chosen-is, coversOf-cons}
@@ -67,7 +67,7 @@ cover-lt n c R cs p a f h = subst (λ (x : ℕ). x < c) u (unionOf-lt c p cs (λ
     u = cover→ n R cs h .union
 
     away : (x : ℕ) → Mem x cs → T (apart c x)
-    away x m = apart-of-inside c R c x a (inside-refl c) (subst (λ (z : ℕ). T (inside x z)) u (inside-unionOf cs x m))
+    away = apart-of-unionOf c cs (subst (λ (z : ℕ). T (apart c z)) (sym u) a)
 
 -- nothing of R is left beside c
 whole : (c R : ℕ) → (inside c R && eqb 0 (R - c)) ≡ eqb c R

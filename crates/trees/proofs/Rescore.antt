@@ -6,7 +6,7 @@
 --     put-cluster, put-clusters, put-other         what a new score leaves alone
 --     again-is-table, rescore-is-table     the theorem, for any local formula and for the paper's
 --     others F c t          the rows of t that don't contain c
---     rescored-clusters, rescore-other     in any table clusters stay, and so does every row that doesn't contain the rescored cluster
+--     again-clusters, rescored-clusters, rescore-other     in any table clusters stay, and so does every row without the rescored cluster
 -- Assumes nothing.
 use mathlib.Core.Path.{_≡_, refl, sym, ap, ap₂, _∙_, subst}
 use mathlib.Core.Logic.{_⊎_, inl, inr}
@@ -146,7 +146,7 @@ module _ (c : ℕ) (z : ℤ) (s : ℕ) where
 -- ---- any table: what a rescoring leaves alone
 
 module _ {A : Type 0} (F : Row → List (Entry A) → A) (c : ℕ) where
-  again-clusters : (t : List (Entry A)) → map cl (again F c t) ≡ map cl t
+  pub again-clusters : (t : List (Entry A)) → map cl (again F c t) ≡ map cl t
   again-clusters [] = refl
   again-clusters (e ∷ t) = go (inside c (cl e)) ∙ ap (λ (cs : List ℕ). cl e ∷ cs) (again-clusters t)
     where
