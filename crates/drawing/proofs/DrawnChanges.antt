@@ -20,7 +20,7 @@ use Rattle.table.specs.Changes.{changeAll, rescoreAll}
 use Rattle.table.proofs.Changes.{AcceptedBytes, changes-accepted}
 use Rattle.table.proofs.Theorems.{rescore-all-is-build}
 use Rattle.drawing.specs.Draw.{drawRefusal, drawTree, drawText}
-use Rattle.drawing.specs.Drawn.{ascending, textOf}
+use Rattle.shapes.specs.Drawn.{ascending, textOf}
 use Rattle.drawing.proofs.LeafRow.{leaves, treesOf}
 use Rattle.drawing.proofs.DrawnTables.{treeDrawn}
 use Rattle.drawing.proofs.DrawnLists.{build-refused-iff, build-drawn-iff, build-drawTree, build-drawText}

@@ -20,7 +20,7 @@ use Rattle.table.specs.Build.{buildTable}
 use Rattle.table.proofs.Acceptance.{accepted-rows, built-table}
 use Rattle.table.proofs.Laws.Accepted.{Accepted}
 use Rattle.drawing.specs.Draw.{drawRefusal, drawTree, drawText}
-use Rattle.drawing.specs.Drawn.{ascending, textOf}
+use Rattle.shapes.specs.Drawn.{ascending, textOf}
 use Rattle.drawing.proofs.LeafRow.{builtFrom, leaves, treesOf}
 use Rattle.drawing.proofs.DrawnTables.{treeDrawn, refused-iff, drawn-iff, drawTree-built, drawText-built}
 

@@ -36,11 +36,11 @@ use Rattle.table.specs.Fit.{isFit}
 use Rattle.table.proofs.FitTables.{Accepted, built-fit}
 use Rattle.drawing.specs.Draw.{hasTree, isDrawable}
 use Rattle.drawing.specs.Draw.{drawRefusal, putInto, drawnAs, drawTree, drawText}
-use Rattle.drawing.specs.Drawn.{ascending, textOf}
-use Rattle.drawing.proofs.Backward.{text-reverse}
+use Rattle.shapes.specs.Drawn.{ascending, textOf}
+use Rattle.shapes.proofs.Backward.{text-reverse}
 use Rattle.drawing.proofs.Laws.Draw.{refusal-no-tree, refusal-none}
 use Rattle.drawing.proofs.Laws.Outcome.{tree-refused, text-refused}
-use Rattle.drawing.proofs.Theorems.{TreeOn, trees-on, text-length-narrow, list-length-le}
+use Rattle.shapes.proofs.Theorems.{TreeOn, trees-on, text-length-narrow, list-length-le}
 use Rattle.drawing.proofs.LeafRow.{builtFrom, leaves, treesOf, leaf-set-is, has-tree-iff}
 use Rattle.drawing.proofs.LeafTree.{first-tree, is-tree, members-back, members-are, listed, drawable}
 

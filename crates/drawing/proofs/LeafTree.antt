@@ -40,10 +40,10 @@ use Rattle.table.specs.View.{resultAt}
 use Rattle.table.specs.Rows.{shownRows, leafSet}
 use Rattle.table.proofs.FitTables.{Accepted}
 use Rattle.drawing.specs.Draw.{leafRow, leafMarks, membersOf, isSame, isDrawable}
-use Rattle.drawing.specs.Drawn.{ascending}
+use Rattle.shapes.specs.Drawn.{ascending}
 use Rattle.drawing.specs.Marked.{membersTo, scoredTo, weightTo}
-use Rattle.drawing.proofs.Backward.{isTree-reverse}
-use Rattle.drawing.proofs.Sorted.{ascending-is-reverse}
+use Rattle.shapes.proofs.Backward.{isTree-reverse}
+use Rattle.shapes.proofs.Sorted.{ascending-is-reverse}
 use Rattle.drawing.proofs.LeafRow.{builtFrom, leaves, treesOf, shown-is, rows-are, clusters-down, rising, row-at}
 use Rattle.drawing.proofs.LeafRow.{leaf-set-is, leaf-result, leaf-listed}
 use Rattle.drawing.proofs.MarkedRows.{Tells, marks-tell, members-tell, scored-tell, weight-tell}

@@ -15,7 +15,7 @@ use lib.Pow.{shl-exact}
 use Rattle.laws.specs.Cluster.{inside, strict}
 use Rattle.laws.specs.Lists.{keepIf, keep}
 use Rattle.trees.specs.Heaviest.{largest}
-use Rattle.drawing.specs.Parts.{childWith}
+use Rattle.shapes.specs.Parts.{childWith}
 use Rattle.drawing.proofs.Laws.Scan.{drop-more}
 
 -- ---- one member

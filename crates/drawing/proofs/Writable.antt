@@ -23,14 +23,14 @@ use Rattle.laws.proofs.Lowest.{lowest-lt}
 use Rattle.trees.specs.Tree.{isTree}
 use Rattle.trees.proofs.TreeFacts.{Given}
 use Rattle.trees.proofs.TreeTest.{famOf, test→tree}
-use Rattle.drawing.specs.Decimal.{decimal}
-use Rattle.drawing.specs.Shape.{smallest}
-use Rattle.drawing.specs.Text.{semicolon}
-use Rattle.drawing.specs.Parts.{partBytes}
+use Rattle.shapes.specs.Decimal.{decimal}
+use Rattle.shapes.specs.Shape.{smallest}
+use Rattle.shapes.specs.Text.{semicolon}
+use Rattle.shapes.specs.Parts.{partBytes}
 use Rattle.drawing.specs.Gathered.{textCap, Writable}
-use Rattle.drawing.proofs.Nests.{Nests}
-use Rattle.drawing.proofs.PartBytes.{part-taxon}
-use Rattle.drawing.proofs.Theorems.{TreeOn, tree-on, text-length-narrow}
+use Rattle.shapes.proofs.Nests.{Nests}
+use Rattle.shapes.proofs.PartBytes.{part-taxon}
+use Rattle.shapes.proofs.Theorems.{TreeOn, tree-on, text-length-narrow}
 use Rattle.drawing.proofs.Stores.{Stored}
 
 -- ---- the tree

@@ -29,7 +29,7 @@ use Rattle.table.specs.declared.table.Table.{Table}
 use Rattle.table.specs.View.{resultAt}
 use Rattle.table.specs.Fit.{isFit}
 use Rattle.table.specs.Rows.{shownRows, placeOf, leafSet}
-use Rattle.drawing.specs.Drawn.{textOf}
+use Rattle.shapes.specs.Drawn.{textOf}
 use Rattle.drawing.specs.Marked.{membersTo, scoredTo, weightTo}
 
 abbrev pub leafRow : Table → ℕ

@@ -21,8 +21,8 @@ use Rattle.cluster.specs.declared.refusal.Refusal.{Refusal}
 use Rattle.trees.specs.Tree.{isTree}
 use Rattle.table.specs.View.{rowCap}
 use Rattle.drawing.specs.declared.marks.Members.{Members}
-use Rattle.drawing.specs.Text.{comma}
-use Rattle.drawing.specs.Parts.{partBytes}
+use Rattle.shapes.specs.Text.{comma}
+use Rattle.shapes.specs.Parts.{partBytes}
 
 abbrev pub textCap : ℕ
 textCap = 148

@@ -15,9 +15,9 @@ ghost use Prim.Native.Nat.{_+_, _≤_, _<_, max};
 ghost use lib.ListN.{length};
 ghost use lib.Seq.{sets};
 ghost use Rattle.laws.specs.Cluster.{inside, strict};
-ghost use Rattle.drawing.specs.Decimal.{decimal};
-ghost use Rattle.drawing.specs.Drawn.{textOf};
-ghost use Rattle.drawing.specs.Parts.{childWith, partBytes};
+ghost use Rattle.shapes.specs.Decimal.{decimal};
+ghost use Rattle.shapes.specs.Drawn.{textOf};
+ghost use Rattle.shapes.specs.Parts.{childWith, partBytes};
 ghost use Rattle.drawing.specs.Gathered.{commaBefore, textCap, Writable};
 
 // The bytes of the marks in a text.

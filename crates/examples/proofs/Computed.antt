@@ -34,10 +34,10 @@ use Rattle.table.specs.Listing.{rowsOf, listRefusal}
 use Rattle.table.specs.Build.{refusalOf}
 use Rattle.table.specs.Rows.{leafSet}
 use Rattle.table.specs.Rescore.{hasRow, isScore, newTable}
-use Rattle.drawing.specs.Decimal.{figures}
-use Rattle.drawing.specs.Drawn.{shapeOf, textOf}
+use Rattle.shapes.specs.Decimal.{figures}
+use Rattle.shapes.specs.Drawn.{shapeOf, textOf}
 use Rattle.drawing.specs.Draw.{hasTree, membersOf, isSame, isDrawable}
-use Rattle.drawing.proofs.Cases.{bytesOf as characters}
+use Rattle.shapes.proofs.Cases.{bytesOf as characters}
 use Rattle.examples.specs.Case.{Drawn, Outcome, refused, drawn, Case}
 use Rattle.examples.specs.Cases.{cases}
 use Rattle.examples.specs.Told.{leafResult}

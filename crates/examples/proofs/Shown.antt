@@ -23,9 +23,9 @@ use Rattle.table.specs.Rows.{leafSet}
 use Rattle.table.specs.Rescore.{hasRow, isScore, newTable}
 use Rattle.table.proofs.FitTables.{rescored-fit}
 use Rattle.table.proofs.Laws.Rescore.{rescore-done}
-use Rattle.drawing.specs.Drawn.{textOf}
+use Rattle.shapes.specs.Drawn.{textOf}
 use Rattle.drawing.specs.Draw.{hasTree, membersOf, isSame, isDrawable, drawRefusal, putInto, drawnAs, drawTree, drawText}
-use Rattle.drawing.proofs.Cases.{bytesOf as characters}
+use Rattle.shapes.proofs.Cases.{bytesOf as characters}
 use Rattle.drawing.proofs.DrawnTables.{enough}
 use Rattle.drawing.proofs.Laws.Draw.{refusal-no-tree, refusal-none}
 use Rattle.examples.specs.Case.{Drawn, Outcome, refused, drawn}

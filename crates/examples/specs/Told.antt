@@ -18,7 +18,7 @@ use Rattle.trees.specs.Result.{Result}
 use Rattle.table.specs.declared.table.Table.{Table}
 use Rattle.table.specs.View.{resultAt}
 use Rattle.drawing.specs.Draw.{leafRow, drawTree, drawText}
-use Rattle.drawing.proofs.Cases.{bytesOf as characters}
+use Rattle.shapes.proofs.Cases.{bytesOf as characters}
 use Rattle.examples.specs.Case.{Drawn, Outcome, refused, drawn}
 
 abbrev pub leafResult : Table → Result

@@ -17,7 +17,7 @@ use Rattle.table.specs.declared.table.Table.{Table}
 use Rattle.table.specs.View.{resultAt}
 use Rattle.table.specs.Rows.{leafSet}
 use Rattle.table.specs.Build.{Making, buildTable}
-use Rattle.drawing.specs.Drawn.{textOf}
+use Rattle.shapes.specs.Drawn.{textOf}
 use Rattle.drawing.specs.Draw.{leafRow, membersOf, drawRefusal, putInto}
 use Rattle.report.specs.Words.{refusedLine, treeLine}
 

@@ -13,7 +13,7 @@ use lib.Dec.{eqb}
 use lib.IntN.{ℤ, pos, natAbs}
 use lib.Signed.{ltZ}
 use Rattle.cluster.specs.Refusal.{Sent}
-use Rattle.drawing.specs.Decimal.{decimal}
+use Rattle.shapes.specs.Decimal.{decimal}
 
 abbrev pub space : ℕ
 space = 32

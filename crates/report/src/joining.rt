@@ -16,7 +16,7 @@ ghost use lib.ListN.{length};
 ghost use lib.Seq.{sets};
 ghost use Rattle.cluster.specs.declared.refusal.Answer.the-variants.{Refused};
 ghost use Rattle.cluster.specs.Refusal.{sentOf};
-ghost use Rattle.drawing.specs.Decimal.{decimal};
+ghost use Rattle.shapes.specs.Decimal.{decimal};
 ghost use Rattle.report.specs.Words.{atWord, countWord, placeWord, refusedLine, treeLine};
 
 const SPACE: u8 = 32;

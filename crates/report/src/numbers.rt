@@ -5,7 +5,7 @@ ghost use mathlib.Core.Path.{_≡_};
 ghost use Prim.Native.Nat.{_+_, _≤_};
 ghost use lib.ListN.{length};
 ghost use lib.Seq.{sets};
-ghost use Rattle.drawing.specs.Decimal.{decimal};
+ghost use Rattle.shapes.specs.Decimal.{decimal};
 ghost use Rattle.report.specs.Words.{signed};
 
 const NOUGHT: u8 = 48;

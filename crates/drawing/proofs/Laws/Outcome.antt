@@ -30,11 +30,11 @@ use Rattle.trees.specs.Tree.{isTree}
 use Rattle.table.specs.declared.table.Table.{Table}
 use Rattle.table.specs.Fit.{isFit}
 use Rattle.table.specs.Rows.{leafSet}
-use Rattle.drawing.specs.Text.{semicolon}
-use Rattle.drawing.specs.Drawn.{textOf}
+use Rattle.shapes.specs.Text.{semicolon}
+use Rattle.shapes.specs.Drawn.{textOf}
 use Rattle.drawing.specs.Draw.{leafRow, hasTree, membersOf, areScored, weighsBest, isDrawable}
 use Rattle.drawing.specs.Draw.{drawRefusal, drawnAs, drawTree, drawText}
-use Rattle.drawing.specs.Parts.{partBytes}
+use Rattle.shapes.specs.Parts.{partBytes}
 use Rattle.drawing.specs.Gathered.{textCap, Writable, Narrow, checkedAs}
 use Rattle.drawing.proofs.Laws.Draw.{hasTree→}
 use Rattle.drawing.proofs.Laws.Front.{Front, front-count, front-of-stored}

@@ -9,8 +9,8 @@ use native.Mathlib.Decide.{decLe}
 use native.Mathlib.Nat.{le-refl, pow-suc}
 use native.Mathlib.Omega.{arith}
 use lib.ListN.{length, length-append}
-use Rattle.drawing.specs.Decimal.{figure, figures, decimal}
-use Rattle.drawing.proofs.Decimal.{figures-low, figures-high}
+use Rattle.shapes.specs.Decimal.{figure, figures, decimal}
+use Rattle.shapes.proofs.Decimal.{figures-low, figures-high}
 
 -- as many steps as the number says are enough
 figures-enough : (j k n : ℕ) → n ≤ j → n ≤ k → figures j n ≡ figures k n

@@ -23,8 +23,8 @@ use native.Mathlib.Numerals.{add-one}
 use native.Mathlib.Omega.{arith}
 use lib.ListN.{length, getD, take, set, length-set, length-append}
 use lib.Seq.{sets, length-sets, take-suc}
-use Rattle.drawing.specs.Decimal.{figure, decimal}
-use Rattle.drawing.proofs.Decimal.{decimal-one}
+use Rattle.shapes.specs.Decimal.{figure, decimal}
+use Rattle.shapes.proofs.Decimal.{decimal-one}
 use Rattle.drawing.proofs.Stores.{Stored, sets-append}
 use Rattle.report.proofs.Laws.Decimal.{decimal-high}
 

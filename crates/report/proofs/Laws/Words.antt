@@ -23,7 +23,7 @@ use Rattle.cluster.specs.declared.refusal.Refusal.{Refusal}
 use Rattle.cluster.specs.declared.refusal.Refusal.the-variants.{NoBytes, WrongLength, TooLong, DegreeOut, BadRecord, Repeated}
 use Rattle.cluster.specs.declared.refusal.Refusal.the-variants.{NoTree, Unfit, NoRow, BadScore, NoRoom}
 use Rattle.cluster.specs.Refusal.{Sent, numberOf, positionOf, sentOf}
-use Rattle.drawing.specs.Decimal.{decimal}
+use Rattle.shapes.specs.Decimal.{decimal}
 use Rattle.report.specs.Words.{signed, many, atWord, countWord, hasPosition, placeWord, refusedLine, treeLine}
 use Rattle.report.proofs.Laws.Decimal.{decimal-length-le}
 

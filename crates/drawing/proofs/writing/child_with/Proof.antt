@@ -5,7 +5,7 @@ use Prim.Native.Nat.{_-_, _≤_}
 use native.Mathlib.Omega.{arith}
 use denote.Ref.{now}
 use lib.ListN.{length}
-use Rattle.drawing.specs.Parts.{childWith}
+use Rattle.shapes.specs.Parts.{childWith}
 use Rattle.drawing.proofs.PartWith.{childFrom, child-from, child-turn, child-none}
 use Rattle.drawing.proofs.writing.child_with.Statement.{statement}
 use Rattle.drawing.proofs.writing.child_with.Tie as tie

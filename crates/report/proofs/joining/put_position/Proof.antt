@@ -1,7 +1,7 @@
 -- `report::joining::put_position` meets its contract: two words, one after the other. Assumes nothing.
 use borrow.Author.Needs.{needs}
 use denote.Ref.{now}
-use Rattle.drawing.specs.Decimal.{decimal}
+use Rattle.shapes.specs.Decimal.{decimal}
 use Rattle.report.specs.Words.{atWord}
 use Rattle.report.proofs.Laws.Joining.{puts-append}
 use Rattle.report.proofs.joining.put_position.Statement.{statement}

@@ -7,7 +7,7 @@ use borrow.Author.Needs.{needs}
 use denote.Ref.{now}
 use Rattle.cluster.specs.declared.refusal.Answer.the-variants.{Refused}
 use Rattle.cluster.specs.Refusal.{numberOf, sentOf}
-use Rattle.drawing.specs.Decimal.{decimal}
+use Rattle.shapes.specs.Decimal.{decimal}
 use Rattle.report.specs.Words.{lineFeed, refusedWord, placeWord}
 use Rattle.report.proofs.Laws.Joining.{Rest, rest-all, rest-none, rest-lt, rest-byte, rest-room, rest-word}
 use Rattle.report.proofs.joining.put_refused.Statement.{statement}

@@ -7,7 +7,7 @@ use denote.Ref.{now}
 use mir.Facts.{toZ-ofZ}
 use mir.Syntax.{w64}
 use mir.Val.{SFits}
-use Rattle.drawing.specs.Decimal.{decimal}
+use Rattle.shapes.specs.Decimal.{decimal}
 use Rattle.report.specs.Words.{space, lineFeed, signed, countWord}
 use Rattle.report.proofs.Laws.Joining.{Rest, rest-all, rest-none, rest-lt, rest-byte, rest-room, rest-word}
 use Rattle.report.proofs.joining.put_tree.Statement.{statement}

@@ -7,7 +7,7 @@ use borrow.Fn.Kinds.{In}
 use borrow.Fn.PlainCycle.{Measures, is, falls, and}
 use denote.Ref.{now}
 use lib.ListN.{length, length-set}
-use Rattle.drawing.specs.Decimal.{decimal}
+use Rattle.shapes.specs.Decimal.{decimal}
 use Rattle.report.proofs.Laws.Joining.{Puts, puts-length, decimal-room-low, decimal-puts-low}
 use Rattle.report.proofs.Laws.Joining.{decimal-room-high, decimal-puts-high, decimal-room-last}
 use Rattle.report.proofs.numbers.put_decimal.Reads as reads

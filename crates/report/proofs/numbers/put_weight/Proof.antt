@@ -10,7 +10,7 @@ use lib.Signed.{ltZ}
 use mir.Facts.{toZ-ofZ}
 use mir.Syntax.{w64}
 use mir.Val.{SFits}
-use Rattle.drawing.specs.Decimal.{decimal}
+use Rattle.shapes.specs.Decimal.{decimal}
 use Rattle.report.specs.Words.{signed}
 use Rattle.report.proofs.Laws.Joining.{Room, puts-cons, puts-length, room-cons}
 use Rattle.report.proofs.Laws.Words.{signed-neg, signed-pos}

@@ -24,8 +24,8 @@ use Rattle.laws.proofs.Cluster.{inside-refl, inside-trans, has-of-inside, insid
 use Rattle.laws.proofs.Cluster.{→apart, taxon-of-union, taxon-nonzero}
 use Rattle.laws.proofs.Split.{Parted, once-of-append}
 use Rattle.trees.specs.Tuple.{allApart}
-use Rattle.drawing.specs.Shape.{Shape, taxon, vertex, Shapes, none, more, topOf, topsOf, clustersOf, clustersIn}
-use Rattle.drawing.specs.Shape.{smallest, ascends, isOrdered, areOrdered}
+use Rattle.shapes.specs.Shape.{Shape, taxon, vertex, Shapes, none, more, topOf, topsOf, clustersOf, clustersIn}
+use Rattle.shapes.specs.Shape.{smallest, ascends, isOrdered, areOrdered}
 
 -- ---- tops are clusters
 

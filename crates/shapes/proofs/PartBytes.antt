@@ -13,15 +13,15 @@ use lib.Dec.{T}
 use Rattle.laws.specs.Cluster.{single, size}
 use Rattle.laws.proofs.Tests.{T-true, T-false}
 use Rattle.laws.proofs.Taxa.{size-pos, size-lt}
-use Rattle.drawing.specs.Decimal.{decimal}
-use Rattle.drawing.specs.Shape.{Shape, taxon, vertex, smallest}
-use Rattle.drawing.specs.Text.{opening, closing, withCommas, print, printEach}
-use Rattle.drawing.specs.Drawn.{childrenInOrder, shapesBy, shapeOf}
-use Rattle.drawing.specs.Parts.{partBytes}
-use Rattle.drawing.proofs.Nests.{Nests}
-use Rattle.drawing.proofs.Parts.{in-order→}
-use Rattle.drawing.proofs.Drawn.{Draws, shape-draws}
-use Rattle.drawing.proofs.Only.{ordered-only}
+use Rattle.shapes.specs.Decimal.{decimal}
+use Rattle.shapes.specs.Shape.{Shape, taxon, vertex, smallest}
+use Rattle.shapes.specs.Text.{opening, closing, withCommas, print, printEach}
+use Rattle.shapes.specs.Drawn.{childrenInOrder, shapesBy, shapeOf}
+use Rattle.shapes.specs.Parts.{partBytes}
+use Rattle.shapes.proofs.Nests.{Nests}
+use Rattle.shapes.proofs.Parts.{in-order→}
+use Rattle.shapes.proofs.Drawn.{Draws, shape-draws}
+use Rattle.shapes.proofs.Only.{ordered-only}
 
 pub draws-only : (xs : List ℕ) (C : ℕ) (s s′ : Shape) → Draws xs C s → Draws xs C s′ → s ≡ s′
 draws-only xs C s s′ d d′ =

@@ -23,8 +23,8 @@ use Rattle.laws.proofs.Tests.{T-and, and-T}
 use Rattle.laws.proofs.Keep.{every→, →every}
 use Rattle.laws.proofs.Falling.{InTurn, in-turn-keep, Falling, falling-once}
 use Rattle.laws.proofs.Appended.{mem-reverse, mem-of-reverse}
-use Rattle.drawing.specs.Shape.{ascends}
-use Rattle.drawing.specs.Drawn.{insertBy, sortBy, ascending}
+use Rattle.shapes.specs.Shape.{ascends}
+use Rattle.shapes.specs.Drawn.{insertBy, sortBy, ascending}
 
 abbrev pub Rising : (ℕ → ℕ) → List ℕ → Type 0
 Rising key = InTurn (λ (c x : ℕ). key c < key x)

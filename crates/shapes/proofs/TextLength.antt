@@ -22,10 +22,10 @@ use Rattle.laws.proofs.Digits.{has-lt, has-pow}
 use Rattle.laws.proofs.Cluster.{inside-refl, inside-trans, le-of-inside, inside-union-l, inside-union-r, has-of-inside}
 use Rattle.laws.proofs.Cluster.{apart→, apart-unionOf}
 use Rattle.trees.specs.Tuple.{allApart}
-use Rattle.drawing.specs.Decimal.{figures, decimal}
-use Rattle.drawing.specs.Shape.{Shape, taxon, vertex, Shapes, none, more, topOf, topsOf, clustersOf, isOrdered, areOrdered}
-use Rattle.drawing.specs.Text.{semicolon, afterCommas, print, printEach, textBytes}
-use Rattle.drawing.proofs.Shape.{ordered→, isApart, areApart, apart-of-once}
+use Rattle.shapes.specs.Decimal.{figures, decimal}
+use Rattle.shapes.specs.Shape.{Shape, taxon, vertex, Shapes, none, more, topOf, topsOf, clustersOf, isOrdered, areOrdered}
+use Rattle.shapes.specs.Text.{semicolon, afterCommas, print, printEach, textBytes}
+use Rattle.shapes.proofs.Shape.{ordered→, isApart, areApart, apart-of-once}
 
 abbrev cost : ℕ → ℕ
 cost t = 3 + length (decimal t)

@@ -21,11 +21,11 @@ use Rattle.laws.proofs.Digits.{has-lt, has-pow}
 use Rattle.laws.proofs.Cluster.{inside-refl, inside-trans, inside-antisym, strict→, →strict, zero-of-apart, apart-of-inside}
 use Rattle.laws.proofs.Taxa.{single→, inside-single, size-pos, size-lt}
 use Rattle.laws.proofs.Lowest.{lowest-taxon}
-use Rattle.drawing.specs.Shape.{Shape, taxon, vertex, topOf, topsOf, clustersOf, clustersIn, smallest, ascends, isOrdered, areOrdered}
-use Rattle.drawing.specs.Drawn.{childrenInOrder, shapesBy, shapeOf}
-use Rattle.drawing.proofs.Sorted.{rising-map}
-use Rattle.drawing.proofs.Nests.{Nests, Child, child-over, children-apart}
-use Rattle.drawing.proofs.Parts.{in-order→, →in-order, order-rising, order-once, order-union, order-two}
+use Rattle.shapes.specs.Shape.{Shape, taxon, vertex, topOf, topsOf, clustersOf, clustersIn, smallest, ascends, isOrdered, areOrdered}
+use Rattle.shapes.specs.Drawn.{childrenInOrder, shapesBy, shapeOf}
+use Rattle.shapes.proofs.Sorted.{rising-map}
+use Rattle.shapes.proofs.Nests.{Nests, Child, child-over, children-apart}
+use Rattle.shapes.proofs.Parts.{in-order→, →in-order, order-rising, order-once, order-union, order-two}
 
 pub record Draws (xs : List ℕ) (C : ℕ) (s : Shape) : Type 0 where
   pub top : topOf s ≡ C

@@ -23,12 +23,12 @@ use Rattle.laws.proofs.Cluster.{inside-refl, inside-trans, le-of-inside, zero-o
 use Rattle.laws.proofs.Cluster.{apart-of-inside, strict→, rest-apart, rest-inside, inside-rest}
 use Rattle.laws.proofs.Lowest.{lowest-in, lowest-le, lowest-lt, lowest-mono, lowest-apart}
 use Rattle.trees.specs.Tree.{children}
-use Rattle.drawing.specs.Shape.{smallest}
-use Rattle.drawing.specs.Drawn.{childrenInOrder}
-use Rattle.drawing.specs.Parts.{childWith}
-use Rattle.drawing.proofs.Sorted.{Rising, rising-once, rising-only, rising-keep, mem-sort, mem-of-sort, sort-rising}
-use Rattle.drawing.proofs.Nests.{Nests, Child, child→, →child, childWith-child, children-apart}
-use Rattle.drawing.proofs.Nests.{taxon-strict, children-union, children-two}
+use Rattle.shapes.specs.Shape.{smallest}
+use Rattle.shapes.specs.Drawn.{childrenInOrder}
+use Rattle.shapes.specs.Parts.{childWith}
+use Rattle.shapes.proofs.Sorted.{Rising, rising-once, rising-only, rising-keep, mem-sort, mem-of-sort, sort-rising}
+use Rattle.shapes.proofs.Nests.{Nests, Child, child→, →child, childWith-child, children-apart}
+use Rattle.shapes.proofs.Nests.{taxon-strict, children-union, children-two}
 
 -- ---- in order
 

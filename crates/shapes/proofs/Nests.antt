@@ -28,8 +28,8 @@ use Rattle.laws.proofs.Lowest.{lowest-in}
 use Rattle.trees.specs.Heaviest.{largest}
 use Rattle.trees.specs.Tree.{children}
 use Rattle.trees.proofs.TieRule.{largest-le}
-use Rattle.drawing.specs.Shape.{smallest}
-use Rattle.drawing.specs.Parts.{childWith}
+use Rattle.shapes.specs.Shape.{smallest}
+use Rattle.shapes.specs.Parts.{childWith}
 
 pub record Nests (xs : List ℕ) : Type 0 where
   pub once : Once xs

@@ -10,10 +10,10 @@ use native.Mathlib.Omega.{arith}
 use lib.Dec.{T, leb, leb→le, lit<}
 use Rattle.laws.specs.Lists.{every}
 use Rattle.laws.proofs.Tests.{T-and}
-use Rattle.drawing.specs.Decimal.{decimal}
-use Rattle.drawing.specs.Shape.{Shape, taxon, vertex, Shapes, none, more}
-use Rattle.drawing.specs.Text.{opening, closing, comma, semicolon, afterCommas, withCommas, print, printEach, textBytes}
-use Rattle.drawing.proofs.Decimal.{isFigure, decimal-figures, decimal-some, decimal-inj}
+use Rattle.shapes.specs.Decimal.{decimal}
+use Rattle.shapes.specs.Shape.{Shape, taxon, vertex, Shapes, none, more}
+use Rattle.shapes.specs.Text.{opening, closing, comma, semicolon, afterCommas, withCommas, print, printEach, textBytes}
+use Rattle.shapes.proofs.Decimal.{isFigure, decimal-figures, decimal-some, decimal-inj}
 
 -- ---- figures, and what follows them
 

@@ -7,8 +7,8 @@
 -- Assumes nothing.
 use mathlib.Core.List.{List, [], _∷_, _++_}
 use Prim.Native.Nat.{ℕ}
-use Rattle.drawing.specs.Decimal.{decimal}
-use Rattle.drawing.specs.Shape.{Shape, taxon, vertex, Shapes, none, more}
+use Rattle.shapes.specs.Decimal.{decimal}
+use Rattle.shapes.specs.Shape.{Shape, taxon, vertex, Shapes, none, more}
 
 abbrev pub opening : ℕ
 opening = 40

@@ -13,8 +13,8 @@ use Prim.Native.Nat.{ℕ, zero, suc}
 use lib.Dec.{ltb}
 use Rattle.laws.specs.Cluster.{single, size}
 use Rattle.trees.specs.Tree.{children}
-use Rattle.drawing.specs.Shape.{Shape, taxon, vertex, Shapes, none, more, smallest}
-use Rattle.drawing.specs.Text.{textBytes}
+use Rattle.shapes.specs.Shape.{Shape, taxon, vertex, Shapes, none, more, smallest}
+use Rattle.shapes.specs.Text.{textBytes}
 
 abbrev pub insertBy : (ℕ → ℕ) → ℕ → List ℕ → List ℕ
 insertBy key c [] = c ∷ []

@@ -9,8 +9,8 @@ use Prim.Native.Nat.{ℕ, _^_}
 use Rattle.laws.specs.Cluster.{inside, strict, size}
 use Rattle.laws.specs.Lists.{keep}
 use Rattle.trees.specs.Heaviest.{largest}
-use Rattle.drawing.specs.Text.{print}
-use Rattle.drawing.specs.Drawn.{shapeOf}
+use Rattle.shapes.specs.Text.{print}
+use Rattle.shapes.specs.Drawn.{shapeOf}
 
 abbrev pub partBytes : List ℕ → ℕ → List ℕ
 partBytes xs C = print (shapeOf (size C) xs C)

@@ -17,7 +17,7 @@ use lib.Dec.{T, leb, ltb, ltb→lt, lt→ltb, le→leb}
 use Rattle.laws.specs.Lists.{every}
 use Rattle.laws.proofs.Tests.{and-T, T-true, T-false}
 use Rattle.laws.proofs.Split.{every-append}
-use Rattle.drawing.specs.Decimal.{figure, figures, decimal}
+use Rattle.shapes.specs.Decimal.{figure, figures, decimal}
 
 -- ---- the two cases
 

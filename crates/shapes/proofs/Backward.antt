@@ -14,11 +14,11 @@ use Rattle.laws.specs.Cluster.{inside, strict, nested, single, size, taxa}
 use Rattle.laws.specs.Lists.{keep, every, some}
 use Rattle.laws.proofs.Appended.{mem-reverse, mem-of-reverse, once-reverse, every-reverse, some-reverse, keep-reverse}
 use Rattle.trees.specs.Tree.{children, isTree}
-use Rattle.drawing.specs.Shape.{clustersOf}
-use Rattle.drawing.specs.Text.{textBytes}
-use Rattle.drawing.specs.Drawn.{shapeOf, textOf}
-use Rattle.drawing.proofs.Only.{Same}
-use Rattle.drawing.proofs.Theorems.{TreeOn, shape-ordered, shape-clusters, shape-once, shape-only}
+use Rattle.shapes.specs.Shape.{clustersOf}
+use Rattle.shapes.specs.Text.{textBytes}
+use Rattle.shapes.specs.Drawn.{shapeOf, textOf}
+use Rattle.shapes.proofs.Only.{Same}
+use Rattle.shapes.proofs.Theorems.{TreeOn, shape-ordered, shape-clusters, shape-once, shape-only}
 
 -- ---- the test of a tree
 

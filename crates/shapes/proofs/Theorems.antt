@@ -33,14 +33,14 @@ use Rattle.trees.proofs.Families.{Fam, fam-ext}
 use Rattle.trees.proofs.TreeFacts.{Given, Tree}
 use Rattle.trees.proofs.TreeSize.{treesOn-length-le}
 use Rattle.trees.proofs.TreeTest.{famOf, tree-of}
-use Rattle.drawing.specs.Shape.{Shape, topOf, clustersOf, isOrdered}
-use Rattle.drawing.specs.Drawn.{ascending, shapeOf, textOf}
-use Rattle.drawing.proofs.Sorted.{length-sort}
-use Rattle.drawing.proofs.Print.{print-inj}
-use Rattle.drawing.proofs.Nests.{Nests}
-use Rattle.drawing.proofs.Drawn.{Draws, shape-draws}
-use Rattle.drawing.proofs.Only.{Same, ordered-only}
-use Rattle.drawing.proofs.TextLength.{fullCost, text-length-le, full-narrow, full-wide}
+use Rattle.shapes.specs.Shape.{Shape, topOf, clustersOf, isOrdered}
+use Rattle.shapes.specs.Drawn.{ascending, shapeOf, textOf}
+use Rattle.shapes.proofs.Sorted.{length-sort}
+use Rattle.shapes.proofs.Print.{print-inj}
+use Rattle.shapes.proofs.Nests.{Nests}
+use Rattle.shapes.proofs.Drawn.{Draws, shape-draws}
+use Rattle.shapes.proofs.Only.{Same, ordered-only}
+use Rattle.shapes.proofs.TextLength.{fullCost, text-length-le, full-narrow, full-wide}
 
 pub record TreeOn (xs : List ℕ) (C : ℕ) : Type 0 where
   pub nests : Nests xs

@@ -19,11 +19,11 @@ use Rattle.laws.proofs.Digits.{Has, has-pow, pow-has}
 use Rattle.laws.proofs.Cluster.{inside-refl, inside-trans, inside-antisym, apart-of-inside, zero-of-apart, inside-unionOf}
 use Rattle.trees.specs.Tuple.{allApart}
 use Rattle.trees.proofs.Tuples.{→tuple, part-other, apart-of-tuple, apart-rest}
-use Rattle.drawing.specs.Shape.{Shape, taxon, vertex, Shapes, none, more, topOf, topsOf, clustersOf, clustersIn}
-use Rattle.drawing.specs.Shape.{smallest, isOrdered, areOrdered}
-use Rattle.drawing.proofs.Sorted.{rising-only, map-rising}
-use Rattle.drawing.proofs.Shape.{top-cluster, tops-clusters, cluster-inside, clusters-inside, first-top, Ordered, ordered→}
-use Rattle.drawing.proofs.Shape.{tops-nonzero, cluster-nonzero, clusters-nonzero, isApart, areApart, apart-of-once}
+use Rattle.shapes.specs.Shape.{Shape, taxon, vertex, Shapes, none, more, topOf, topsOf, clustersOf, clustersIn}
+use Rattle.shapes.specs.Shape.{smallest, isOrdered, areOrdered}
+use Rattle.shapes.proofs.Sorted.{rising-only, map-rising}
+use Rattle.shapes.proofs.Shape.{top-cluster, tops-clusters, cluster-inside, clusters-inside, first-top, Ordered, ordered→}
+use Rattle.shapes.proofs.Shape.{tops-nonzero, cluster-nonzero, clusters-nonzero, isApart, areApart, apart-of-once}
 
 pub record Same (l r : List ℕ) : Type 0 where
   pub to : (c : ℕ) → Mem c l → Mem c r

@@ -12,8 +12,8 @@ use Prim.Native.Nat.{ℕ}
 use Prim.Native.String.{String, [] as end, _∷_ as then}
 use lib.Count.{ones, onesIn, trailingZeros}
 use Rattle.laws.specs.Cluster.{inside, single}
-use Rattle.drawing.specs.Decimal.{figures}
-use Rattle.drawing.specs.Drawn.{shapeOf, textOf}
+use Rattle.shapes.specs.Decimal.{figures}
+use Rattle.shapes.specs.Drawn.{shapeOf, textOf}
 
 abbrev pub bytesOf : String → List ℕ
 bytesOf end = []

@@ -1,0 +1,7 @@
+-- Read in this order: numbers in decimal, shapes, their text, the shape and text of a set of clusters, and how a writer meets the children
+-- of a part.
+pub mod Decimal
+pub mod Shape
+pub mod Text
+pub mod Drawn
+pub mod Parts
