@@ -38,7 +38,7 @@ use Rattle.trees.proofs.TreeTest.{tree-of}
 use Rattle.table.specs.declared.table.Table.{Table}
 use Rattle.table.specs.View.{rowCap, resultAt, entryAt, entriesOf, tableOf}
 use Rattle.table.specs.Rows.{shownRows, unionTo, leafSet}
-use Rattle.table.specs.Searched.{clustersDown, Rising}
+use Rattle.table.specs.Arrays.{clustersDown, Rising}
 use Rattle.table.proofs.FitTables.{Accepted, built-fit}
 use Rattle.table.proofs.Laws.Column.{mem-entries}
 use Rattle.table.proofs.Laws.Fit.{isFit→}

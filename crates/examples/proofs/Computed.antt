@@ -32,8 +32,8 @@ use Rattle.table.specs.declared.table.Table.{Table}
 use Rattle.table.specs.View.{tableOf}
 use Rattle.table.specs.Listing.{rowsOf, listRefusal}
 use Rattle.table.specs.Build.{refusalOf}
-use Rattle.table.specs.Rows.{leafSet}
-use Rattle.table.specs.Rescore.{hasRow, isScore, newTable}
+use Rattle.table.specs.Rows.{leafSet, hasRow}
+use Rattle.table.specs.Rescore.{isScore, newTable}
 use Rattle.shapes.specs.Decimal.{figures}
 use Rattle.shapes.specs.Drawn.{shapeOf, textOf}
 use Rattle.drawing.specs.Draw.{hasTree, membersOf, isSame, isDrawable}

@@ -19,8 +19,8 @@ use Rattle.cluster.specs.Bytes.{byteValues}
 use Rattle.cluster.specs.Refusal.{numberOf}
 use Rattle.table.specs.declared.table.Table.{Table}
 use Rattle.table.specs.Fit.{isFit}
-use Rattle.table.specs.Rows.{leafSet}
-use Rattle.table.specs.Rescore.{hasRow, isScore, newTable}
+use Rattle.table.specs.Rows.{leafSet, hasRow}
+use Rattle.table.specs.Rescore.{isScore, newTable}
 use Rattle.table.proofs.FitTables.{rescored-fit}
 use Rattle.table.proofs.Laws.Rescore.{rescore-done}
 use Rattle.shapes.specs.Drawn.{textOf}

@@ -33,9 +33,10 @@ use Rattle.table.specs.declared.table.Table.{Table}
 use Rattle.table.specs.declared.tally.Tally.{Tally}
 use Rattle.table.specs.View.{wordValues, rowAt, entryAt, entriesOf, tableOf}
 use Rattle.table.specs.Fit.{isEmpty, keepsRules, fitEntry}
-use Rattle.table.specs.Searched.{columnsOf, clustersDown, rowOf, fieldsOf, Rising, Starts, GoodRow, Sound}
+use Rattle.table.specs.Searched.{columnsOf, rowOf, fieldsOf, Starts, GoodRow, Sound}
 use Rattle.table.specs.Tally.{fieldsTally}
-use Rattle.table.specs.Working.{workedRow, clustersOf, againTable, Ready, Sized, Workable}
+use Rattle.table.specs.Working.{workedRow, clustersOf, againTable, Ready, Workable}
+use Rattle.table.specs.Arrays.{clustersDown, Rising, Sized}
 use Rattle.table.proofs.AgainFit.{again-fit, Listed}
 use Rattle.table.proofs.Bare.{bare, worked-bare, beneath-bare}
 use Rattle.table.proofs.Decoded.{good-of-fit}

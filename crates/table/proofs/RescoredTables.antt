@@ -34,7 +34,8 @@ use Rattle.table.specs.declared.rescoring.Rescored.{Rescored}
 use Rattle.table.specs.declared.table.Table.{Table}
 use Rattle.table.specs.View.{rowAt, entryAt, entriesOf}
 use Rattle.table.specs.Fit.{isFit}
-use Rattle.table.specs.Rescore.{Changing, changingOf, isScore, hasRow, rescoreRefusal, newTable, changedOf, rescoreTable}
+use Rattle.table.specs.Rescore.{Changing, changingOf, isScore, rescoreRefusal, newTable, changedOf, rescoreTable}
+use Rattle.table.specs.Rows.{hasRow}
 use Rattle.table.proofs.Laws.Column.{entries-length}
 use Rattle.table.proofs.Laws.Refused.{none-some}
 use Rattle.table.proofs.Laws.View.{entries-table}

@@ -26,9 +26,10 @@ use Rattle.trees.specs.Rescored.{putScore, workedOut, again}
 use Rattle.table.specs.declared.table.Table.{Table}
 use Rattle.table.specs.View.{rowCap, wordValues, rowAt, entryAt, entriesOf, tableOf}
 use Rattle.table.specs.Fit.{keepsRules, fitEntry, isEmpty, isFit}
-use Rattle.table.specs.Rescore.{isScore, hasRow, newTable}
-use Rattle.table.specs.Rows.{placeOf}
-use Rattle.table.specs.Working.{clustersOf, againTable, Sized, Workable}
+use Rattle.table.specs.Rescore.{isScore, newTable}
+use Rattle.table.specs.Rows.{placeOf, hasRow}
+use Rattle.table.specs.Working.{clustersOf, againTable, Workable}
+use Rattle.table.specs.Arrays.{Sized}
 use Rattle.table.proofs.FitTables.{put-rules}
 use Rattle.table.proofs.Laws.Fit.{FitTable, isFit→, →blankFrom, fit-rules}
 use Rattle.table.proofs.Laws.Marks.{clusters-are}

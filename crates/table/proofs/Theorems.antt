@@ -46,8 +46,9 @@ use Rattle.table.specs.View.{tableOf}
 use Rattle.table.specs.Fit.{isFit}
 use Rattle.table.specs.Listing.{recordsIn, clustersTo, rowsOf}
 use Rattle.table.specs.Build.{buildTable}
-use Rattle.table.specs.Rescore.{Changing, isScore, hasRow, rescoreRefusal, newTable, rescoreTable}
+use Rattle.table.specs.Rescore.{Changing, isScore, rescoreRefusal, newTable, rescoreTable}
 use Rattle.table.specs.Changes.{HasCluster, firstPlace, isTaken, changedBytes, changeOne, changeAll, rescoreAll}
+use Rattle.table.specs.Rows.{hasRow}
 use Rattle.table.proofs.Laws.Accepted.{Accepted}
 use Rattle.table.proofs.Acceptance.{accepted-facts, accepted-rows, built-table}
 use Rattle.table.proofs.Changed.{changed-accepted, changed-rows}

@@ -40,10 +40,11 @@ use Rattle.trees.proofs.Kind.{prodK, overTuples, valueIf, tuples-map, hom-sum, 
 use Rattle.trees.proofs.Worked.{markIn, lengthIf, trueResult}
 use Rattle.table.specs.declared.tally.Tally.{Tally}
 use Rattle.table.specs.View.{wordValues}
-use Rattle.table.specs.Searched.{Columns, rowOf, fieldsOf, clustersDown, GoodRow, Searchable}
+use Rattle.table.specs.Searched.{Columns, rowOf, fieldsOf, GoodRow, Searchable}
 use Rattle.table.specs.Searched.{sumKind, sumCovers, partsOf}
 use Rattle.table.specs.Tally.{tallyWith, tallyOf, fieldsTally, noTally, lowMark, highMark, ownTally, underTally, decoded}
 use Rattle.table.specs.Working.{beneathOf, rowWith, workedRow, Ready}
+use Rattle.table.specs.Arrays.{clustersDown}
 use Rattle.table.proofs.Decoded.{tally-encode}
 use Rattle.table.proofs.Encoded.{Clear, tally-under}
 use Rattle.table.proofs.Held.{Keeps, keeps-counted, sum-count}

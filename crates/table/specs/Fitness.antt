@@ -23,7 +23,7 @@ use Rattle.table.specs.declared.fitness.Fields.{Fields}
 use Rattle.table.specs.declared.table.Table.{Table}
 use Rattle.table.specs.View.{rowCap, wordValues, entryAt}
 use Rattle.table.specs.Fit.{isZero, hasMark, isEmpty, fitEntry}
-use Rattle.table.specs.Searched.{clustersDown, Rising}
+use Rattle.table.specs.Arrays.{clustersDown, Rising}
 
 -- ---- one row
 abbrev pub listedIn : Fields → Row

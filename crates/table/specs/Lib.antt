@@ -13,6 +13,8 @@ pub mod Rescore
 pub mod Changes
 -- looking up rows
 pub mod Rows
+-- what the private functions cite: the arrays of a table
+pub mod Arrays
 -- what the private functions cite: tallies, and what the search may count on
 pub mod Tally
 pub mod Searched

@@ -24,6 +24,7 @@ use Rattle.table.specs.declared.table.Table.{Table}
 use Rattle.table.specs.declared.rescoring.Rescored.{Rescored}
 use Rattle.table.specs.View.{entriesOf, tableOf}
 use Rattle.table.specs.Fit.{isFit}
+use Rattle.table.specs.Rows.{hasRow}
 
 pub record Changing : Type 0 where
   pub sent : Sent
@@ -35,9 +36,6 @@ changingOf r = record { sent = sentOf (r .answer); table = r .table }
 -- by the record rules, for any cluster that may stand in a record
 abbrev pub isScore : ℤ → ℕ → Bool
 isScore z s = isKept (brokenRule (record { cluster = 1; weight = z; state = s }) false)
-
-abbrev pub hasRow : Table → ℕ → Bool
-hasRow t c = elem c (map cl (entriesOf t (t .rows)))
 
 abbrev pub rescoreRefusal : Table → ℕ → ℤ → ℕ → Option Refusal
 rescoreRefusal t c z s =

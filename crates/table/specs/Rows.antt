@@ -4,15 +4,18 @@
 --     placeOf t c          the row of the cluster c: the number of rows where it has none
 --     unionTo cs n         the union of the first n clusters
 --     leafSet t            the leaf set of a table: the union of its rows' clusters
+--     hasRow t c           a row of the table has the cluster c
 -- Assumes nothing.
-use mathlib.Core.Bool.{cond}
-use mathlib.Core.List.{List}
+use mathlib.Core.Bool.{Bool, cond}
+use mathlib.Core.List.{List, map}
 use Prim.Native.Nat.{ℕ, zero, suc, min}
 use lib.Bits.{bitOr}
 use lib.Dec.{eqb}
 use lib.ListN.{getD}
+use Rattle.laws.specs.Lists.{elem}
+use Rattle.trees.specs.Rows.{cl}
 use Rattle.table.specs.declared.table.Table.{Table}
-use Rattle.table.specs.View.{rowCap}
+use Rattle.table.specs.View.{rowCap, entriesOf}
 
 abbrev pub shownRows : Table → ℕ
 shownRows t = min (t .rows) rowCap
@@ -30,3 +33,6 @@ unionTo cs (suc i) = bitOr (unionTo cs i) (getD cs i 0)
 
 abbrev pub leafSet : Table → ℕ
 leafSet t = unionTo (t .clusters) (shownRows t)
+
+abbrev pub hasRow : Table → ℕ → Bool
+hasRow t c = elem c (map cl (entriesOf t (t .rows)))

@@ -4,8 +4,7 @@
 --     partAt, partsOf           row i as one part of a tuple, and the first n rows, the largest first; partTally is the code's form
 --     sumCovers left rest es    over the covers of `rest` by at most `left` of the scored entries: how many there are, and the sum of the
 --                               products of their counts and keys
---     clustersDown cs n         the first n clusters, the largest first
---     Rising, Past, Below, Starts     ascending clusters; some of them, and all of them, that are below a number; below each taxon
+--     Past, Below, Starts       some of the clusters, and all of them, that are below a number; below each taxon
 --     GoodRow, Sound            a row whose results the search may add up; all the first n rows are such, and ascend
 --     Long, Readable, Searchable     the columns reach far enough; what looking up, and searching, may count on
 -- Assumes nothing.
@@ -28,6 +27,7 @@ use Rattle.trees.proofs.Capped.{Res}
 use Rattle.table.specs.declared.table.Table.{Table}
 use Rattle.table.specs.declared.tally.Tally.{Tally}
 use Rattle.table.specs.View.{rowCap, wordValues}
+use Rattle.table.specs.Arrays.{Rising}
 use Rattle.table.specs.Fit.{isTold}
 use Rattle.table.specs.Tally.{decoded}
 
@@ -83,15 +83,7 @@ sumKind = pairKind countKind (solKind (λ (c : ℕ). 0))
 unfoldable pub sumCovers : ℕ → ℕ → List (Entry Res) → Res
 sumCovers left rest es = overTuples sumKind (coversOf left rest (keep sc es))
 
-abbrev pub clustersDown : List ℕ → ℕ → List ℕ
-clustersDown cs zero = []
-clustersDown cs (suc i) = getD cs i 0 ∷ clustersDown cs i
-
 -- ---- rows in ascending order
-pub record Rising (cs : List ℕ) (n : ℕ) : Type 0 where
-  pub long : n ≤ length cs
-  pub up : (i j : ℕ) → i < j → j < n → getD cs i 0 < getD cs j 0
-
 -- the first r of the n clusters are below v, and the others may be
 pub record Past (cs : List ℕ) (n v r : ℕ) : Type 0 where
   pub within : r ≤ n

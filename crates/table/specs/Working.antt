@@ -3,7 +3,7 @@
 --     workedRow k z i d         row i of the columns, with the weight z, worked out by the paper's formulas from the rows beneath
 --     clustersOf t              the clusters of a table's rows, the largest first
 --     againTable t c            the table with every row that contains c worked out again
---     Ready, Sized, Workable    what each may count on
+--     Ready, Workable           what each may count on
 -- Assumes nothing.
 use mathlib.Core.Path.{_≡_}
 use mathlib.Core.List.{List, [], _∷_}
@@ -19,7 +19,8 @@ use Rattle.trees.specs.Rescored.{workedOut, again}
 use Rattle.table.specs.declared.table.Table.{Table}
 use Rattle.table.specs.View.{rowCap, wordValues, rowAt, entryAt, entriesOf, tableOf}
 use Rattle.table.specs.Fit.{keepsRules, fitEntry, blankFrom}
-use Rattle.table.specs.Searched.{Columns, rowOf, fieldsOf, clustersDown, Rising, Starts, Long, Sound}
+use Rattle.table.specs.Searched.{Columns, rowOf, fieldsOf, Starts, Long, Sound}
+use Rattle.table.specs.Arrays.{clustersDown, Rising, Sized}
 
 abbrev pub beneathOf : Columns → ℕ → List (Entry Result)
 beneathOf k zero = []
@@ -54,17 +55,6 @@ pub record Ready (k : Columns) (starts : List ℕ) (z : ℤ) (i d : ℕ) : Type 
   pub light : natAbs z ≤ weightMax
 
 -- ---- what working out a table may count on
-pub record Sized (t : Table) : Type 0 where
-  pub clusters : length (t .clusters) ≡ rowCap
-  pub weights : length (t .weights) ≡ rowCap
-  pub states : length (t .states) ≡ rowCap
-  pub lengths : length (t .lengths) ≡ rowCap
-  pub counts : length (t .counts) ≡ rowCap
-  pub marks : length (t .marks) ≡ rowCap
-  pub bests : length (t .bests) ≡ rowCap
-  pub lows : length (t .«members_low») ≡ rowCap
-  pub highs : length (t .«members_high») ≡ rowCap
-
 -- the rows that don't contain c are fit; the others are to be worked out
 pub record Workable (t : Table) (c : ℕ) : Type 0 where
   pub some : 1 ≤ t .rows

@@ -32,9 +32,9 @@ ghost use lib.ListN.{length};
 ghost use Rattle.laws.specs.Limits.{narrow};
 ghost use Rattle.table.specs.View.{rowCap};
 ghost use Rattle.table.specs.Fit.{hasMark, isBlank, isEmpty, keepsRules, isRanged, isTold, fitEntry, isFit};
-ghost use Rattle.table.specs.Searched.{clustersDown, Rising};
 ghost use Rattle.table.specs.Fitness.{listedIn, resultIn, entryIn, isNothing, isLength, isMark, isLight};
 ghost use Rattle.table.specs.Fitness.{isRising, everyBit, isMarkFit, isRowRight, hasRightRows, Placed};
+ghost use Rattle.table.specs.Arrays.{clustersDown, Rising};
 
 // One row by value: element i of each array.
 struct Fields {

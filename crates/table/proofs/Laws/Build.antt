@@ -43,10 +43,10 @@ use Rattle.table.specs.declared.table.Table.{Table}
 use Rattle.table.specs.View.{rowCap, rowAt, entryAt, tableOf}
 use Rattle.table.specs.Fit.{keepsRules}
 use Rattle.table.specs.Listing.{rowIn, badFrom, repeats, repeatFrom, rowsTo, rowsOf, recordRefusal}
-use Rattle.table.specs.Searched.{clustersDown, Rising}
 use Rattle.table.specs.Working.{againTable, Workable}
 use Rattle.table.specs.Arranged.{rowFrom, ReadTo, HasClusters, Ordered, Within, unworked, arrangedTable, Makeable}
 use Rattle.table.specs.Build.{Making, makingOf, refusalOf, refusedBuild, madeOf, buildTable}
+use Rattle.table.specs.Arrays.{clustersDown, Rising}
 use Rattle.table.proofs.Laws.Scan.{first-before, first-high}
 use Rattle.table.proofs.Laws.Listing.{breaks, bad-is, repeat-is, rows-length, row-rules, row-facts}
 use Rattle.table.proofs.Laws.Refused.{record-bad, record-repeated, record-none}

@@ -38,8 +38,8 @@ use Rattle.table.specs.declared.fitness.Fields.{Fields}
 use Rattle.table.specs.declared.table.Table.{Table}
 use Rattle.table.specs.View.{rowCap, wordValues, entryAt, entriesOf}
 use Rattle.table.specs.Fit.{isZero, isBlank, isEmpty, hasMark, isTold, fitEntry, blankFrom, isFit}
-use Rattle.table.specs.Searched.{clustersDown, Rising}
 use Rattle.table.specs.Fitness.{listedIn, resultIn, isNothing, isLight, isRising, everyBit, isMarkFit, isRowRight, hasRightRows}
+use Rattle.table.specs.Arrays.{clustersDown, Rising}
 use Rattle.table.proofs.Laws.Fit.{isZero→, nothing→, FitTable, fitTable-is, isFit→}
 use Rattle.table.proofs.Laws.Marks.{Marked, mark-none, mark-lt, lt-of-marks, mark-rest, rest-mark, mark-low, mark-high}
 use Rattle.table.proofs.Laws.Marks.{clusters-are, everyBit→, →everyBit, everyMarked-is, isMarkedIn-is, length-clustersDown}

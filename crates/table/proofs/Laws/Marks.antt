@@ -41,8 +41,8 @@ use Rattle.trees.proofs.Marks.{marks-none}
 use Rattle.table.specs.declared.table.Table.{Table}
 use Rattle.table.specs.View.{wordValues, entriesOf}
 use Rattle.table.specs.Fit.{hasMark, everyMarked, isMarkedIn}
-use Rattle.table.specs.Searched.{clustersDown, Rising}
 use Rattle.table.specs.Fitness.{everyBit}
+use Rattle.table.specs.Arrays.{clustersDown, Rising}
 use Rattle.table.proofs.Laws.Through.{through-length, mem-through, through-mem, falling-at, down-through}
 
 -- ---- the clusters of the first rows

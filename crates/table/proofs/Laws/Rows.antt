@@ -25,9 +25,8 @@ use Rattle.laws.proofs.Keep.{elem→, →elem}
 use Rattle.laws.proofs.Tests.{bool-ext}
 use Rattle.table.specs.declared.table.Table.{Table}
 use Rattle.table.specs.View.{rowCap}
-use Rattle.table.specs.Rows.{shownRows, placeFrom, placeOf, unionTo}
-use Rattle.table.specs.Searched.{clustersDown}
-use Rattle.table.specs.Rescore.{hasRow}
+use Rattle.table.specs.Rows.{shownRows, placeFrom, placeOf, unionTo, hasRow}
+use Rattle.table.specs.Arrays.{clustersDown}
 use Rattle.table.proofs.Laws.Marks.{clusters-are, mem-clustersDown, clustersDown-mem}
 
 module _ (cs : List ℕ) (c : ℕ) where

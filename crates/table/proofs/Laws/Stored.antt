@@ -16,7 +16,7 @@ use Rattle.trees.specs.Result.{Result}
 use Rattle.table.specs.declared.table.Table.{Table}
 use Rattle.table.specs.declared.tally.Tally.{Tally}
 use Rattle.table.specs.View.{rowCap, wordValues, rowAt, entryAt, entriesOf}
-use Rattle.table.specs.Working.{Sized}
+use Rattle.table.specs.Arrays.{Sized}
 
 abbrev pub resultIn : Tally → Result
 resultIn r = record { length = r .tuples; count = r .count; mark = r .mark; best = r .best; members = r .low + wordValues * r .high }

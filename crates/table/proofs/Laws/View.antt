@@ -20,7 +20,7 @@ use Rattle.trees.specs.Result.{Result, blank}
 use Rattle.table.specs.declared.table.Table.{Table}
 use Rattle.table.specs.View.{rowCap, wordValues, rowAt, resultAt, entryAt, entriesOf, tableOf}
 use Rattle.table.specs.Fit.{isZero, isBlank, isEmpty, blankFrom}
-use Rattle.table.specs.Working.{Sized}
+use Rattle.table.specs.Arrays.{Sized}
 use Rattle.table.proofs.Laws.Column.{entries-length, length-column, column-past, column-first, column-rest, column-is}
 use Rattle.table.proofs.Laws.Fit.{isZero→, isBlank→, blankFrom→, →blankFrom}
 

@@ -6,8 +6,8 @@ use denote.Ref.{now}
 use Rattle.laws.specs.Limits.{narrow}
 use Rattle.laws.proofs.Tests.{true-T}
 use Rattle.table.specs.Fit.{keepsRules, isRanged, isTold, fitEntry}
-use Rattle.table.specs.Searched.{clustersDown}
 use Rattle.table.specs.Fitness.{listedIn, entryIn}
+use Rattle.table.specs.Arrays.{clustersDown}
 use Rattle.table.proofs.Laws.Fit.{fitEntry-is, cluster-pos}
 use Rattle.table.proofs.Laws.Fitness.{passed, failed}
 use Rattle.table.proofs.fitness.is_row_fit.Statement.{statement}

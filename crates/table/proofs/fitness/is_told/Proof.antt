@@ -10,8 +10,8 @@ use mir.Syntax.{w64}
 use mir.Val.{Fits, SFits}
 use Rattle.laws.proofs.Taxa.{size-pos}
 use Rattle.table.specs.Fit.{isTold}
-use Rattle.table.specs.Searched.{clustersDown}
 use Rattle.table.specs.Fitness.{listedIn, resultIn}
+use Rattle.table.specs.Arrays.{clustersDown}
 use Rattle.table.proofs.Laws.Fitness.{passed, failed, told-none, toldTests, told-is}
 use Rattle.table.proofs.fitness.is_told.Statement.{statement}
 use Rattle.table.proofs.fitness.is_told.Tie as tie
