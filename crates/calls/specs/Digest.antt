@@ -13,8 +13,8 @@ use lib.IntN.{ℤ, pos}
 use lib.ListN.{length, getD}
 use mir.Syntax.{w64}
 use mir.Val.{ofZ}
-use Rattle.table.specs.declared.table.Table.{Table}
-use Rattle.table.specs.View.{rowCap, wordValues}
+use Rattle.kept.specs.declared.table.Table.{Table}
+use Rattle.kept.specs.View.{rowCap, wordValues}
 use Rattle.table.specs.Rescore.{rescoreTable}
 
 abbrev pub wrap : ℕ → ℕ → ℕ

@@ -31,8 +31,8 @@ use Rattle.trees.specs.Heaviest.{firstHeaviest}
 use Rattle.trees.proofs.Rows.{givenOf}
 use Rattle.trees.proofs.Theorems.{none-iff}
 use Rattle.trees.proofs.TreeFacts.{Given}
-use Rattle.table.specs.declared.table.Table.{Table}
-use Rattle.table.specs.Fit.{isFit}
+use Rattle.kept.specs.declared.table.Table.{Table}
+use Rattle.kept.specs.Fit.{isFit}
 use Rattle.table.proofs.FitTables.{Accepted, built-fit}
 use Rattle.drawing.specs.Draw.{hasTree, isDrawable}
 use Rattle.drawing.specs.Draw.{drawRefusal, putInto, drawnAs, drawTree, drawText}

@@ -35,16 +35,16 @@ use Rattle.trees.specs.Built.{rowLength, withBest, treeResult, builtResult, bui
 use Rattle.trees.proofs.Rows.{givenOf, mem-scored}
 use Rattle.trees.proofs.Theorems.{count-iff}
 use Rattle.trees.proofs.TreeTest.{tree-of}
-use Rattle.table.specs.declared.table.Table.{Table}
-use Rattle.table.specs.View.{rowCap, resultAt, entryAt, entriesOf, tableOf}
-use Rattle.table.specs.Rows.{shownRows, unionTo, leafSet}
-use Rattle.table.specs.Arrays.{clustersDown, Rising}
+use Rattle.kept.specs.declared.table.Table.{Table}
+use Rattle.kept.specs.View.{rowCap, resultAt, entryAt, entriesOf, tableOf}
+use Rattle.kept.specs.Rows.{shownRows, unionTo, leafSet}
+use Rattle.kept.specs.Arrays.{clustersDown, Rising}
 use Rattle.table.proofs.FitTables.{Accepted, built-fit}
-use Rattle.table.proofs.Laws.Column.{mem-entries}
-use Rattle.table.proofs.Laws.Fit.{isFit→}
-use Rattle.table.proofs.Laws.Marks.{clusters-are}
-use Rattle.table.proofs.Laws.Rows.{placeOf-first, hasRow-is, unionTo-is}
-use Rattle.table.proofs.Laws.View.{entries-table, table-sized}
+use Rattle.kept.proofs.Laws.Column.{mem-entries}
+use Rattle.kept.proofs.Laws.Fit.{isFit→}
+use Rattle.kept.proofs.Laws.Marks.{clusters-are}
+use Rattle.kept.proofs.Laws.Rows.{placeOf-first, hasRow-is, unionTo-is}
+use Rattle.kept.proofs.Laws.View.{entries-table, table-sized}
 use Rattle.drawing.specs.Draw.{leafRow, hasTree}
 use Rattle.drawing.proofs.Laws.Draw.{hasTree→, hasTree-count}
 

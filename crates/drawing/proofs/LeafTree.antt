@@ -35,9 +35,9 @@ use Rattle.trees.proofs.Rows.{givenOf, mem-scored}
 use Rattle.trees.proofs.Theorems.{none-iff, best-is-tree}
 use Rattle.trees.proofs.TreeFacts.{Given, Tree}
 use Rattle.trees.proofs.TreeTest.{tree-of, tree→test}
-use Rattle.table.specs.declared.table.Table.{Table}
-use Rattle.table.specs.View.{resultAt}
-use Rattle.table.specs.Rows.{shownRows, leafSet}
+use Rattle.kept.specs.declared.table.Table.{Table}
+use Rattle.kept.specs.View.{resultAt}
+use Rattle.kept.specs.Rows.{shownRows, leafSet}
 use Rattle.table.proofs.FitTables.{Accepted}
 use Rattle.drawing.specs.Draw.{leafRow, leafMarks, membersOf, isSame, isDrawable}
 use Rattle.shapes.specs.Drawn.{ascending}

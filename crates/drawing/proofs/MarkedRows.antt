@@ -20,11 +20,11 @@ use Rattle.trees.specs.Rows.{scored, Entry}
 use Rattle.trees.specs.Heaviest.{weightIn}
 use Rattle.trees.specs.Result.{Result, marksIn}
 use Rattle.trees.proofs.Marks.{marks-lt, marks-inj}
-use Rattle.table.specs.declared.table.Table.{Table}
-use Rattle.table.specs.View.{entriesOf}
-use Rattle.table.specs.Fit.{hasMark, isMarkedIn}
-use Rattle.table.specs.Arrays.{clustersDown, Rising}
-use Rattle.table.proofs.Laws.Marks.{mem-clustersDown, falling-clustersDown, isMarkedIn-is}
+use Rattle.kept.specs.declared.table.Table.{Table}
+use Rattle.kept.specs.View.{entriesOf}
+use Rattle.kept.specs.Fit.{hasMark, isMarkedIn}
+use Rattle.kept.specs.Arrays.{clustersDown, Rising}
+use Rattle.kept.proofs.Laws.Marks.{mem-clustersDown, falling-clustersDown, isMarkedIn-is}
 use Rattle.table.proofs.Marked.{marksOf-marked}
 use Rattle.drawing.specs.Marked.{membersTo, scoredTo, weightTo}
 

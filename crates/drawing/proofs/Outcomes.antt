@@ -7,7 +7,7 @@ use Prim.Native.Nat.{ℕ}
 use Rattle.cluster.specs.declared.refusal.Answer.{Answer}
 use Rattle.cluster.specs.Writing.{wroteOf}
 use Rattle.cluster.proofs.Laws.Writing.{wroteOf-inj}
-use Rattle.table.specs.declared.table.Table.{Table}
+use Rattle.kept.specs.declared.table.Table.{Table}
 use Rattle.drawing.specs.Draw.{drawTree, drawText}
 
 module _ (t : Table) (room : List ℕ) (a b : Answer) (l m : List ℕ) where

@@ -25,10 +25,10 @@ use Rattle.cluster.specs.declared.refusal.Refusal.{Refusal}
 use Rattle.cluster.specs.declared.refusal.Refusal.the-variants.{NoTree, Unfit, NoRoom}
 use Rattle.cluster.specs.Writing.{Wrote, wroteOf}
 use Rattle.trees.specs.Tree.{isTree}
-use Rattle.table.specs.declared.table.Table.{Table}
-use Rattle.table.specs.View.{resultAt}
-use Rattle.table.specs.Fit.{isFit}
-use Rattle.table.specs.Rows.{shownRows, placeOf, leafSet}
+use Rattle.kept.specs.declared.table.Table.{Table}
+use Rattle.kept.specs.View.{resultAt}
+use Rattle.kept.specs.Fit.{isFit}
+use Rattle.kept.specs.Rows.{shownRows, placeOf, leafSet}
 use Rattle.shapes.specs.Drawn.{textOf}
 use Rattle.drawing.specs.Marked.{membersTo, scoredTo, weightTo}
 

@@ -23,7 +23,7 @@ ghost use mathlib.Core.List.{_++_};
 ghost use Prim.Native.Nat.{_≤_, _<_};
 ghost use lib.ListN.{length, drop};
 ghost use Rattle.cluster.specs.Writing.{wroteOf};
-ghost use Rattle.table.specs.Fit.{isFit};
+ghost use Rattle.kept.specs.Fit.{isFit};
 ghost use Rattle.drawing.specs.Draw.{leafRow, membersOf, weighsBest, isDrawable, drawRefusal, drawTree, drawText};
 ghost use Rattle.drawing.specs.Gathered.{Holds, Narrow, checkedAs};
 

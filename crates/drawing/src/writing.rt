@@ -1,4 +1,4 @@
-// The text of a tree. Cites `specs/Drawn.antt` and `specs/Gathered.antt`.
+// The text of a tree. Cites `specs/Drawn.antt` of `shapes`, and `specs/Gathered.antt`.
 //     larger_part    the larger of two clusters, if the second is a part with a taxon
 //     child_with     the child of a part that has a taxon
 //     put_taxon      a taxon in decimal

@@ -19,8 +19,8 @@ use Rattle.laws.proofs.Integers.{Tri, tri}
 use Rattle.laws.proofs.Tests.{T-and, and-T}
 use Rattle.trees.specs.Rows.{Row, Entry}
 use Rattle.trees.specs.Result.{Result}
-use Rattle.table.specs.declared.table.Table.{Table}
-use Rattle.table.specs.View.{rowAt, entryAt}
+use Rattle.kept.specs.declared.table.Table.{Table}
+use Rattle.kept.specs.View.{rowAt, entryAt}
 use Rattle.drawing.specs.Draw.{isSame}
 use Rattle.drawing.proofs.LeafTree.{same-weights}
 use Rattle.examples.specs.Right.{Changes}

@@ -28,11 +28,11 @@ use Rattle.cluster.specs.Refusal.{numberOf}
 use Rattle.cluster.specs.Rule.{brokenRule}
 use Rattle.trees.specs.Rows.{scored}
 use Rattle.trees.specs.Tree.{isTree}
-use Rattle.table.specs.declared.table.Table.{Table}
-use Rattle.table.specs.View.{tableOf}
+use Rattle.kept.specs.declared.table.Table.{Table}
+use Rattle.kept.specs.View.{tableOf}
 use Rattle.table.specs.Listing.{rowsOf, listRefusal}
 use Rattle.table.specs.Build.{refusalOf}
-use Rattle.table.specs.Rows.{leafSet, hasRow}
+use Rattle.kept.specs.Rows.{leafSet, hasRow}
 use Rattle.table.specs.Rescore.{isScore, newTable}
 use Rattle.shapes.specs.Decimal.{figures}
 use Rattle.shapes.specs.Drawn.{shapeOf, textOf}

@@ -17,9 +17,9 @@ use Rattle.cluster.specs.declared.refusal.Refusal.{Refusal}
 use Rattle.cluster.specs.declared.refusal.Refusal.the-variants.{NoTree}
 use Rattle.cluster.specs.Bytes.{byteValues}
 use Rattle.cluster.specs.Refusal.{numberOf}
-use Rattle.table.specs.declared.table.Table.{Table}
-use Rattle.table.specs.Fit.{isFit}
-use Rattle.table.specs.Rows.{leafSet, hasRow}
+use Rattle.kept.specs.declared.table.Table.{Table}
+use Rattle.kept.specs.Fit.{isFit}
+use Rattle.kept.specs.Rows.{leafSet, hasRow}
 use Rattle.table.specs.Rescore.{isScore, newTable}
 use Rattle.table.proofs.FitTables.{rescored-fit}
 use Rattle.table.proofs.Laws.Rescore.{rescore-done}

@@ -13,9 +13,9 @@ use Rattle.laws.specs.Lists.{every}
 use Rattle.laws.proofs.Keep.{every→}
 use Rattle.laws.proofs.Tests.{T-and, true-T}
 use Rattle.cluster.specs.Bytes.{byteValues}
-use Rattle.table.specs.declared.table.Table.{Table}
-use Rattle.table.specs.View.{tableOf}
-use Rattle.table.specs.Fit.{isFit}
+use Rattle.kept.specs.declared.table.Table.{Table}
+use Rattle.kept.specs.View.{tableOf}
+use Rattle.kept.specs.Fit.{isFit}
 use Rattle.table.specs.Listing.{rowsOf}
 use Rattle.table.specs.Build.{Making, refusalOf, buildTable}
 use Rattle.table.specs.Rescore.{Changing}

@@ -17,8 +17,8 @@ use Rattle.laws.specs.Lists.{elem, bind}
 use Rattle.cluster.specs.declared.record.Record.{Record}
 use Rattle.cluster.specs.Record.{bytesOf}
 use Rattle.cluster.specs.Refusal.{Sent}
-use Rattle.table.specs.declared.table.Table.{Table}
-use Rattle.table.specs.View.{rowAt, entryAt}
+use Rattle.kept.specs.declared.table.Table.{Table}
+use Rattle.kept.specs.View.{rowAt, entryAt}
 use Rattle.table.specs.Build.{Making, buildTable}
 use Rattle.table.specs.Rescore.{Changing, rescoreTable}
 use Rattle.examples.specs.Case.{Case}

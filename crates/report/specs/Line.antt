@@ -13,9 +13,9 @@ use Rattle.cluster.specs.declared.refusal.Answer.the-variants.{Refused}
 use Rattle.cluster.specs.declared.refusal.Refusal.{Refusal}
 use Rattle.cluster.specs.Refusal.{sentOf}
 use Rattle.cluster.specs.Writing.{Wrote}
-use Rattle.table.specs.declared.table.Table.{Table}
-use Rattle.table.specs.View.{resultAt}
-use Rattle.table.specs.Rows.{leafSet}
+use Rattle.kept.specs.declared.table.Table.{Table}
+use Rattle.kept.specs.View.{resultAt}
+use Rattle.kept.specs.Rows.{leafSet}
 use Rattle.table.specs.Build.{Making, buildTable}
 use Rattle.shapes.specs.Drawn.{textOf}
 use Rattle.drawing.specs.Draw.{leafRow, membersOf, drawRefusal, putInto}

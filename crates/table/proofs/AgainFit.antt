@@ -21,10 +21,10 @@ use Rattle.laws.proofs.Tests.{T-dec, T-true, T-false}
 use Rattle.trees.specs.Rows.{Row, Entry, cl}
 use Rattle.trees.specs.Result.{Result}
 use Rattle.trees.specs.Rescored.{workedOut, againIf, again}
-use Rattle.table.specs.Fit.{keepsRules, fitEntry}
+use Rattle.kept.specs.Fit.{keepsRules, fitEntry}
 use Rattle.table.proofs.Decoded.{good-of-fit}
 use Rattle.table.proofs.KeepsFit.{Over, worked-fit}
-use Rattle.table.proofs.Laws.Fit.{rules→}
+use Rattle.kept.proofs.Laws.Fit.{rules→}
 
 -- ---- which rows a table has once rows are worked out again
 

@@ -22,8 +22,8 @@ use Rattle.trees.specs.Result.{Result, blank}
 use Rattle.trees.specs.Rescored.{Beneath, timesCounts, sumCounts, isLive, isMarked, isMany}
 use Rattle.trees.specs.Rescored.{Key, keyOf, firstKey, ownMark, joined, alone, workedOut}
 use Rattle.trees.proofs.Covers.{clusters-map}
-use Rattle.table.specs.declared.table.Table.{Table}
-use Rattle.table.specs.View.{entryAt, entriesOf}
+use Rattle.kept.specs.declared.table.Table.{Table}
+use Rattle.kept.specs.View.{entryAt, entriesOf}
 use Rattle.table.specs.Searched.{columnsOf}
 use Rattle.table.specs.Working.{beneathOf}
 

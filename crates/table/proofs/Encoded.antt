@@ -21,7 +21,7 @@ use Rattle.trees.proofs.Keys.{Sol, plusSol, timesSol}
 use Rattle.trees.proofs.Capped.{Res, trueCount, Counted}
 use Rattle.table.specs.declared.tally.Count.{Count}
 use Rattle.table.specs.declared.tally.Tally.{Tally}
-use Rattle.table.specs.View.{wordValues}
+use Rattle.kept.specs.View.{wordValues}
 use Rattle.table.specs.Tally.{tallyWith, tallyOf, noTally, exactCount, plusCounts, timesCounts}
 use Rattle.table.specs.Tally.{isLarger, isBefore, keepsFirst, withTuples, withCount, plusTally, underTally}
 use Rattle.table.specs.Searched.{sumKind}

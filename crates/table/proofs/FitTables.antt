@@ -27,17 +27,17 @@ use Rattle.trees.specs.Built.{builtTable}
 use Rattle.trees.specs.Rescored.{putScore, workedOut, again, rescored}
 use Rattle.trees.proofs.Rescore.{put-cluster, put-other}
 use Rattle.trees.proofs.TupleBound.{few-narrow}
-use Rattle.table.specs.declared.table.Table.{Table}
-use Rattle.table.specs.View.{rowCap, entryAt, entriesOf, tableOf}
+use Rattle.kept.specs.declared.table.Table.{Table}
+use Rattle.kept.specs.View.{rowCap, entryAt, entriesOf, tableOf}
 use Rattle.table.specs.Arranged.{unworked}
-use Rattle.table.specs.Fit.{keepsRules, fitEntry, isFit}
+use Rattle.kept.specs.Fit.{keepsRules, fitEntry, isFit}
 use Rattle.table.specs.Rescore.{isScore, newTable}
 use Rattle.table.proofs.AgainFit.{again-clusters, Listed, again-fit}
 pub use Rattle.table.proofs.Laws.Build.{Accepted}
 use Rattle.table.proofs.Laws.Build.{unworked-clusters, again-built}
-use Rattle.table.proofs.Laws.Column.{entries-length, mem-entries}
-use Rattle.table.proofs.Laws.Fit.{recordIn, rules→, →rules, fit-rules, isFit→, →isFit, fit-falls, fit-each, entries-rising}
-use Rattle.table.proofs.Laws.View.{entries-table, table-past, blank→empty}
+use Rattle.kept.proofs.Laws.Column.{entries-length, mem-entries}
+use Rattle.kept.proofs.Laws.Fit.{recordIn, rules→, →rules, fit-rules, isFit→, →isFit, fit-falls, fit-each, entries-rising}
+use Rattle.kept.proofs.Laws.View.{entries-table, table-past, blank→empty}
 
 -- ---- rows that may be made a table of
 

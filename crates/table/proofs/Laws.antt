@@ -1,8 +1,4 @@
 -- Laws of the definitions of `specs/`, a file for each.
--- one field of all rows
-pub mod Column
--- a table as rows with their results, and back
-pub mod View
 -- the results of one row stored
 pub mod Stored
 -- the code's operations on tallies
@@ -11,14 +7,6 @@ pub mod Tally
 pub mod Searched
 -- a row by itself, and the row worked out by the code
 pub mod Working
--- marks by row number, and the clusters of the first rows
-pub mod Marks
--- a fit table as facts
-pub mod Fit
--- looking up rows
-pub mod Rows
--- the tests of fitness in the order of the code
-pub mod Fitness
 -- the outcomes of rescoring
 pub mod Rescore
 -- the first place that passes a test
@@ -29,8 +17,6 @@ pub mod Insert
 pub mod Listing
 -- the records read
 pub mod Read
--- what an order of positions shows
-pub mod Through
 -- one record put in its place, and all of them in order
 pub mod Placed
 pub mod Ordered

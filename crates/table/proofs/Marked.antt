@@ -1,4 +1,4 @@
--- Marks as numbers: the laws of `hasMark`, `everyMarked` and `isMarkedIn` of `specs/Fit.antt`.
+-- Marks as numbers: the laws of `hasMark`, `everyMarked` and `isMarkedIn` of `kept`.
 --     marked-mem                       a marked cluster is the cluster of a row
 --     every-marked→, →every-marked     what holds of every marked row's cluster
 --     marks-marked                     the marks of the marked clusters are the number's low digits, one for each row
@@ -20,7 +20,7 @@ use Rattle.laws.proofs.Falling.{Falling}
 use Rattle.laws.proofs.Tests.{T-and, and-T, T-or, or-l, or-r, T-dec, T-true, T-false}
 use Rattle.trees.specs.Result.{marksIn}
 use Rattle.trees.proofs.Marks.{marks-ext}
-use Rattle.table.specs.Fit.{hasMark, everyMarked, isMarkedIn}
+use Rattle.kept.specs.Fit.{hasMark, everyMarked, isMarkedIn}
 
 pub marked-mem : (cs : List ℕ) (m c : ℕ) → T (isMarkedIn cs m c) → Mem c cs
 marked-mem (x ∷ cs) m c h = go (T-or (eqb x c && hasMark m (length cs)) (isMarkedIn cs m c) h) (marked-mem cs m c)

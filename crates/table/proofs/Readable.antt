@@ -24,11 +24,11 @@ use Rattle.laws.proofs.Tests.{T-true, T-false, eq→eqb}
 use Rattle.trees.specs.Rows.{scored, isScored, Entry, cl, sc}
 use Rattle.trees.proofs.Capped.{Res}
 use Rattle.trees.proofs.Search.{lookup, lookup-row, lookup-missing, search-one}
-use Rattle.table.specs.View.{wordValues}
+use Rattle.kept.specs.View.{wordValues}
 use Rattle.table.specs.Tally.{tallyOf, noTally, decoded}
 use Rattle.table.specs.Searched.{Columns, rowOf, fieldsOf, partAt, partTally, partsOf, sumKind, sumCovers}
 use Rattle.table.specs.Searched.{Below, Long, Sound, Readable}
-use Rattle.table.proofs.Laws.Marks.{rising-part}
+use Rattle.kept.proofs.Laws.Marks.{rising-part}
 use Rattle.table.proofs.Laws.Searched.{mem-parts, parts-mem, parts-descend, sumCovers-search}
 use Rattle.table.proofs.Decoded.{decoded-keeps, fields-tally}
 use Rattle.table.proofs.Held.{Part}

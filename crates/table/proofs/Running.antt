@@ -23,7 +23,7 @@ use Rattle.trees.proofs.Keys.{Sol, plusSol}
 use Rattle.trees.proofs.Leads.{leads}
 use Rattle.trees.proofs.Search.{scan, gain, search-more, scan-ended, scan-cons, scan-added, scan-unscored, scan-outside, scan-low}
 use Rattle.table.specs.declared.tally.Tally.{Tally}
-use Rattle.table.specs.View.{wordValues}
+use Rattle.kept.specs.View.{wordValues}
 use Rattle.table.specs.Tally.{tallyOf, noTally, plusTally}
 use Rattle.table.specs.Searched.{Columns, partAt, partsOf, sumKind, sumCovers, Searchable}
 use Rattle.table.proofs.Laws.Searched.{mem-parts, sumCovers-search}

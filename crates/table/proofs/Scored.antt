@@ -23,17 +23,17 @@ use Rattle.laws.proofs.Cluster.{inside-refl}
 use Rattle.trees.specs.Rows.{Entry}
 use Rattle.trees.specs.Result.{Result}
 use Rattle.trees.specs.Rescored.{putScore, workedOut, again}
-use Rattle.table.specs.declared.table.Table.{Table}
-use Rattle.table.specs.View.{rowCap, wordValues, rowAt, entryAt, entriesOf, tableOf}
-use Rattle.table.specs.Fit.{keepsRules, fitEntry, isEmpty, isFit}
+use Rattle.kept.specs.declared.table.Table.{Table}
+use Rattle.kept.specs.View.{rowCap, wordValues, rowAt, entryAt, entriesOf, tableOf}
+use Rattle.kept.specs.Fit.{keepsRules, fitEntry, isEmpty, isFit}
 use Rattle.table.specs.Rescore.{isScore, newTable}
-use Rattle.table.specs.Rows.{placeOf, hasRow}
+use Rattle.kept.specs.Rows.{placeOf, hasRow}
 use Rattle.table.specs.Working.{clustersOf, againTable, Workable}
-use Rattle.table.specs.Arrays.{Sized}
+use Rattle.kept.specs.Arrays.{Sized}
 use Rattle.table.proofs.FitTables.{put-rules}
-use Rattle.table.proofs.Laws.Fit.{FitTable, isFit→, →blankFrom, fit-rules}
-use Rattle.table.proofs.Laws.Marks.{clusters-are}
-use Rattle.table.proofs.Laws.Rows.{hasRow-is, placeOf-first}
+use Rattle.kept.proofs.Laws.Fit.{FitTable, isFit→, →blankFrom, fit-rules}
+use Rattle.kept.proofs.Laws.Marks.{clusters-are}
+use Rattle.kept.proofs.Laws.Rows.{hasRow-is, placeOf-first}
 
 -- ---- the row of the cluster, as the code looks it up
 

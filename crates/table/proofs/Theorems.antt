@@ -41,14 +41,14 @@ use Rattle.trees.specs.Result.{Result}
 use Rattle.trees.specs.Built.{builtResult, builtTable}
 use Rattle.trees.specs.Rescored.{putScore, rescored}
 use Rattle.trees.proofs.Theorems.{rescore-is-build}
-use Rattle.table.specs.declared.table.Table.{Table}
-use Rattle.table.specs.View.{tableOf}
-use Rattle.table.specs.Fit.{isFit}
+use Rattle.kept.specs.declared.table.Table.{Table}
+use Rattle.kept.specs.View.{tableOf}
+use Rattle.kept.specs.Fit.{isFit}
 use Rattle.table.specs.Listing.{recordsIn, clustersTo, rowsOf}
 use Rattle.table.specs.Build.{buildTable}
 use Rattle.table.specs.Rescore.{Changing, isScore, rescoreRefusal, newTable, rescoreTable}
 use Rattle.table.specs.Changes.{HasCluster, firstPlace, isTaken, changedBytes, changeOne, changeAll, rescoreAll}
-use Rattle.table.specs.Rows.{hasRow}
+use Rattle.kept.specs.Rows.{hasRow}
 use Rattle.table.proofs.Laws.Accepted.{Accepted}
 use Rattle.table.proofs.Acceptance.{accepted-facts, accepted-rows, built-table}
 use Rattle.table.proofs.Changed.{changed-accepted, changed-rows}
@@ -58,7 +58,7 @@ use Rattle.table.proofs.RescoredTables.{rescore-of, rescore-accepts-iff
 use Rattle.table.proofs.Rewritten.{Bytes}
 use Rattle.table.proofs.Laws.Build.{clusters-of-rows}
 use Rattle.table.proofs.Laws.Listing.{clusters-mem, clusters-has, elem-rows}
-use Rattle.table.proofs.Laws.View.{entries-table}
+use Rattle.kept.proofs.Laws.View.{entries-table}
 
 -- ---- the build of an accepted list
 

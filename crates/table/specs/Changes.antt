@@ -19,7 +19,7 @@ use lib.ListN.{take, drop}
 use Rattle.cluster.specs.declared.record.Record.{Record}
 use Rattle.cluster.specs.Record.{recordBytes, bytesOf}
 use Rattle.trees.specs.Rows.{Row}
-use Rattle.table.specs.declared.table.Table.{Table}
+use Rattle.kept.specs.declared.table.Table.{Table}
 use Rattle.table.specs.Listing.{recordsIn, rowIn}
 use Rattle.table.specs.Rescore.{isScore, rescoreTable}
 

@@ -1,8 +1,4 @@
--- What the contracts and the theorems of `table` cite. Read in this order.
--- a table as rows with their results, and back
-pub mod View
--- what a fit table is
-pub mod Fit
+-- What the contracts and the theorems of `table` cite, beside the definitions of `kept`. Read in this order.
 -- the rows that a list of records holds, and its refusals
 pub mod Listing
 -- building
@@ -11,14 +7,9 @@ pub mod Build
 pub mod Rescore
 -- lists changed and tables rescored, one change after another: what theorems cite
 pub mod Changes
--- looking up rows
-pub mod Rows
--- what the private functions cite: the arrays of a table
-pub mod Arrays
 -- what the private functions cite: tallies, and what the search may count on
 pub mod Tally
 pub mod Searched
 pub mod Working
--- what the private functions cite: the tests of fitness
-pub mod Fitness
+-- what the private functions cite: the records read and in order
 pub mod Arranged

@@ -20,11 +20,11 @@ use Rattle.cluster.specs.Refusal.{Sent, sentOf}
 use Rattle.cluster.specs.Rule.{brokenRule, isKept}
 use Rattle.trees.specs.Rows.{cl}
 use Rattle.trees.specs.Rescored.{rescored}
-use Rattle.table.specs.declared.table.Table.{Table}
+use Rattle.kept.specs.declared.table.Table.{Table}
 use Rattle.table.specs.declared.rescoring.Rescored.{Rescored}
-use Rattle.table.specs.View.{entriesOf, tableOf}
-use Rattle.table.specs.Fit.{isFit}
-use Rattle.table.specs.Rows.{hasRow}
+use Rattle.kept.specs.View.{entriesOf, tableOf}
+use Rattle.kept.specs.Fit.{isFit}
+use Rattle.kept.specs.Rows.{hasRow}
 
 pub record Changing : Type 0 where
   pub sent : Sent

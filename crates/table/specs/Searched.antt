@@ -24,11 +24,11 @@ use Rattle.trees.proofs.Covers.{coversOf}
 use Rattle.trees.proofs.Kind.{Kind, overTuples, pairKind}
 use Rattle.trees.proofs.Keys.{countKind, solKind}
 use Rattle.trees.proofs.Capped.{Res}
-use Rattle.table.specs.declared.table.Table.{Table}
+use Rattle.kept.specs.declared.table.Table.{Table}
 use Rattle.table.specs.declared.tally.Tally.{Tally}
-use Rattle.table.specs.View.{rowCap, wordValues}
-use Rattle.table.specs.Arrays.{Rising}
-use Rattle.table.specs.Fit.{isTold}
+use Rattle.kept.specs.View.{rowCap, wordValues}
+use Rattle.kept.specs.Arrays.{Rising}
+use Rattle.kept.specs.Fit.{isTold}
 use Rattle.table.specs.Tally.{decoded}
 
 pub record Columns : Type 0 where

@@ -16,11 +16,11 @@ use Rattle.laws.specs.Limits.{narrow, weightMax, degreeLow, degreeHigh}
 use Rattle.trees.specs.Rows.{Row, Entry}
 use Rattle.trees.specs.Result.{Result}
 use Rattle.trees.specs.Rescored.{workedOut, again}
-use Rattle.table.specs.declared.table.Table.{Table}
-use Rattle.table.specs.View.{rowCap, wordValues, rowAt, entryAt, entriesOf, tableOf}
-use Rattle.table.specs.Fit.{keepsRules, fitEntry, blankFrom}
+use Rattle.kept.specs.declared.table.Table.{Table}
+use Rattle.kept.specs.View.{rowCap, wordValues, rowAt, entryAt, entriesOf, tableOf}
+use Rattle.kept.specs.Fit.{keepsRules, fitEntry, blankFrom}
 use Rattle.table.specs.Searched.{Columns, rowOf, fieldsOf, Starts, Long, Sound}
-use Rattle.table.specs.Arrays.{clustersDown, Rising, Sized}
+use Rattle.kept.specs.Arrays.{clustersDown, Rising, Sized}
 
 abbrev pub beneathOf : Columns → ℕ → List (Entry Result)
 beneathOf k zero = []

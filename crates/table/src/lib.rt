@@ -1,27 +1,24 @@
 // The table of a list of clusters: built, tested for fitness, and rescored one cluster at a time. Nothing public has a `requires`, and each
 // `ensures` is one equation to a definition of `specs/`.
-//     Table, zero_table         one value with room for 128 rows, and the one that is all zero
-//     is_fit                    every sentence of document 01's "fit", as one test
 //     Built, build              a list of records and a degree bound to a table
 //     Rescored, rescore         one row with a new weight and state, and every row that contains it worked out again
+// Passed on from the crate `kept`:
+//     Table, zero_table         one value with room for 128 rows, and the one that is all zero
+//     is_fit                    every sentence of document 01's "fit", as one test
 //     row_of, leaf_set          where a cluster's row stands, and the union of all clusters
-mod fitness;
-mod limits;
 mod listing;
 mod making;
 mod rescoring;
-mod rows;
 mod searching;
-mod table;
 mod tally;
 mod working;
 
-pub use fitness::is_fit;
+pub use kept::Table;
+pub use kept::is_fit;
+pub use kept::leaf_set;
+pub use kept::row_of;
+pub use kept::zero_table;
 pub use making::Built;
 pub use making::build;
 pub use rescoring::Rescored;
 pub use rescoring::rescore;
-pub use rows::leaf_set;
-pub use rows::row_of;
-pub use table::Table;
-pub use table::zero_table;

@@ -3,22 +3,24 @@
 //     refused     a refused build
 //     made        the table of whole records
 //     build       a list of records and a degree bound to a table
-use crate::limits::DEGREE_HIGH;
-use crate::limits::DEGREE_LOW;
-use crate::limits::LIST_BYTES;
 use crate::listing::arranged;
 use crate::listing::ordered;
 use crate::listing::read_all;
-use crate::table::Table;
-use crate::table::zero_table;
 use crate::working::again;
 use cluster::Answer;
 use cluster::RECORD_BYTES;
 use cluster::Refusal;
+use kept::DEGREE_HIGH;
+use kept::DEGREE_LOW;
+use kept::Table;
+use kept::zero_table;
 ghost use mathlib.Core.Path.{_≡_};
 ghost use Rattle.table.specs.Listing.{recordRefusal};
 ghost use Rattle.table.specs.Arranged.{Makeable};
 ghost use Rattle.table.specs.Build.{makingOf, refusedBuild, madeOf, buildTable};
+
+// The longest list: 128 records.
+const LIST_BYTES: usize = 1536;
 
 // What a build gives: the table is all zero where the answer is a refusal.
 pub struct Built {

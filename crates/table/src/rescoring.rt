@@ -1,15 +1,15 @@
 // Rescoring one cluster of a kept table. Cites `specs/Rescore.antt`.
 //     Rescored     what a rescoring gives
 //     rescore      one row with a new weight and state, and every row that contains it worked out again
-use crate::fitness::is_fit;
-use crate::rows::row_of;
-use crate::table::Table;
 use crate::working::again;
 use cluster::Answer;
 use cluster::Record;
 use cluster::Refusal;
 use cluster::broken_rule;
 use cluster::is_kept;
+use kept::Table;
+use kept::is_fit;
+use kept::row_of;
 ghost use mathlib.Core.Path.{_≡_};
 ghost use Rattle.table.specs.Rescore.{isScore, changingOf, rescoreTable};
 

@@ -5,20 +5,20 @@
 //     part            a row as one part of a tuple
 //     last            the one cover of a cluster by one row
 //     search          the sum over the covers of a cluster
-use crate::limits::SCORED;
 use crate::tally::Tally;
 use crate::tally::none;
 use crate::tally::plus;
 use crate::tally::under;
 use cluster::highest;
 use cluster::is_inside;
+use kept::SCORED;
 ghost use mathlib.Core.Path.{_≡_};
 ghost use mathlib.Core.List.{[]};
 ghost use Prim.Native.Nat.{_≤_, _<_};
 ghost use lib.ListN.{length, replicate};
 ghost use Rattle.table.specs.Tally.{tallyOf};
 ghost use Rattle.table.specs.Searched.{columns, partTally, partsOf, sumCovers, Past, Below, Starts, Readable, Searchable};
-ghost use Rattle.table.specs.Arrays.{Rising};
+ghost use Rattle.kept.specs.Arrays.{Rising};
 
 // How many of the first `n` rows have a smaller cluster than `value`; the first `past` of them are known to.
 pub(crate) fn place_below(clusters: &[u64], past: usize, n: usize, value: u64) -> usize

@@ -2,17 +2,17 @@
 //     own        a row by itself
 //     worked     the result of one row
 //     again      every row that contains a cluster
-use crate::limits::COUNT_MAX;
-use crate::limits::SCORED;
-use crate::limits::WORD_ROWS;
 use crate::searching::put_starts;
 use crate::searching::search;
-use crate::table::Table;
 use crate::tally::Tally;
 use crate::tally::none;
 use crate::tally::under;
 use cluster::is_inside;
 use cluster::is_single;
+use kept::COUNT_MAX;
+use kept::SCORED;
+use kept::Table;
+use kept::WORD_ROWS;
 ghost use mathlib.Core.Path.{_≡_};
 ghost use Prim.Native.Nat.{_<_};
 ghost use Rattle.table.specs.Tally.{fieldsTally, ownTally, lowMark, highMark};

@@ -8,7 +8,7 @@ use Prim.Native.Nat.{ℕ, _+_}
 use native.Mathlib.Numerals.{add-one}
 use lib.IntN.{ℤ, pos}
 use lib.ListN.{getD}
-use Rattle.table.specs.declared.table.Table.{Table}
+use Rattle.kept.specs.declared.table.Table.{Table}
 use Rattle.table.specs.declared.making.Built.{Built}
 use Rattle.table.specs.declared.rescoring.Rescored.{Rescored}
 use Rattle.table.specs.Build.{Making, makingOf}

@@ -26,11 +26,11 @@ use Rattle.laws.specs.Limits.{narrow}
 use Rattle.laws.proofs.Tests.{T-and, true-T, neq→}
 use Rattle.cluster.specs.declared.refusal.Refusal.the-variants.{NoTree, Unfit}
 use Rattle.trees.specs.Tree.{isTree}
-use Rattle.table.specs.declared.table.Table.{Table}
-use Rattle.table.specs.View.{rowCap, resultAt}
-use Rattle.table.specs.Fit.{isFit}
-use Rattle.table.specs.Rows.{shownRows, leafSet}
-use Rattle.table.proofs.Laws.Fit.{FitTable, isFit→}
+use Rattle.kept.specs.declared.table.Table.{Table}
+use Rattle.kept.specs.View.{rowCap, resultAt}
+use Rattle.kept.specs.Fit.{isFit}
+use Rattle.kept.specs.Rows.{shownRows, leafSet}
+use Rattle.kept.proofs.Laws.Fit.{FitTable, isFit→}
 use Rattle.drawing.specs.declared.marks.Members.{Members}
 use Rattle.drawing.specs.Marked.{membersTo, scoredTo, weightTo}
 use Rattle.drawing.specs.Draw.{leafRow, hasTree, leafMarks, membersOf, isSame, areScored, weighsBest, isDrawable, drawRefusal}

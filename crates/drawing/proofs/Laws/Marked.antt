@@ -15,9 +15,9 @@ use borrow.Author.Tests.{eq-eqb, ne-eqb}
 use lib.IntN.{ℤ, pos, _+ℤ_, +ℤ-comm, +ℤ-idl}
 use lib.ListN.{length, getD, length-append}
 use Rattle.trees.specs.Rows.{scored}
-use Rattle.table.specs.View.{wordValues}
-use Rattle.table.specs.Fit.{hasMark}
-use Rattle.table.proofs.Laws.Marks.{mark-high}
+use Rattle.kept.specs.View.{wordValues}
+use Rattle.kept.specs.Fit.{hasMark}
+use Rattle.kept.proofs.Laws.Marks.{mark-high}
 use Rattle.drawing.specs.Marked.{membersTo, scoredTo, weightTo}
 
 -- ---- the marks of the high word

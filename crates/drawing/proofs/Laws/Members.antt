@@ -18,11 +18,11 @@ use Rattle.laws.specs.Lists.{Once}
 use Rattle.laws.proofs.Once.{once-append}
 use Rattle.laws.proofs.Tests.{true-T}
 use Rattle.trees.specs.Rows.{cl}
-use Rattle.table.specs.declared.table.Table.{Table}
-use Rattle.table.specs.View.{rowCap, entriesOf, entryAt}
-use Rattle.table.specs.Fit.{hasMark, isFit}
-use Rattle.table.specs.Rows.{shownRows}
-use Rattle.table.proofs.Laws.Fit.{isFit→, fit→}
+use Rattle.kept.specs.declared.table.Table.{Table}
+use Rattle.kept.specs.View.{rowCap, entriesOf, entryAt}
+use Rattle.kept.specs.Fit.{hasMark, isFit}
+use Rattle.kept.specs.Rows.{shownRows}
+use Rattle.kept.proofs.Laws.Fit.{isFit→, fit→}
 use Rattle.drawing.specs.Marked.{membersTo}
 use Rattle.drawing.specs.Draw.{leafMarks, membersOf}
 

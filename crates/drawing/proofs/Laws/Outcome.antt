@@ -27,9 +27,9 @@ use Rattle.cluster.specs.declared.refusal.Refusal.{Refusal}
 use Rattle.cluster.specs.declared.refusal.Refusal.the-variants.{NoTree, Unfit, NoRoom}
 use Rattle.cluster.specs.Writing.{wroteOf}
 use Rattle.trees.specs.Tree.{isTree}
-use Rattle.table.specs.declared.table.Table.{Table}
-use Rattle.table.specs.Fit.{isFit}
-use Rattle.table.specs.Rows.{leafSet}
+use Rattle.kept.specs.declared.table.Table.{Table}
+use Rattle.kept.specs.Fit.{isFit}
+use Rattle.kept.specs.Rows.{leafSet}
 use Rattle.shapes.specs.Text.{semicolon}
 use Rattle.shapes.specs.Drawn.{textOf}
 use Rattle.drawing.specs.Draw.{leafRow, hasTree, membersOf, areScored, weighsBest, isDrawable}

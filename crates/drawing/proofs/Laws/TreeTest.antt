@@ -20,7 +20,7 @@ use Rattle.laws.specs.Limits.{narrow}
 use Rattle.laws.specs.Lists.{every, elem}
 use Rattle.laws.proofs.Keep.{every-and}
 use Rattle.trees.specs.Tree.{children, isTree}
-use Rattle.table.specs.View.{wordValues}
+use Rattle.kept.specs.View.{wordValues}
 
 -- ---- the tests in turn: where those before pass and one fails, the whole fails; where three pass, the last decides
 abbrev pub areNested : ℕ → List ℕ → Bool

@@ -39,21 +39,21 @@ use Rattle.trees.proofs.Built.{worked-is-built}
 use Rattle.table.specs.declared.listing.Listed.{Listed}
 use Rattle.table.specs.declared.listing.Order.{Order}
 use Rattle.table.specs.declared.making.Built.{Built}
-use Rattle.table.specs.declared.table.Table.{Table}
-use Rattle.table.specs.View.{rowCap, rowAt, entryAt, tableOf}
-use Rattle.table.specs.Fit.{keepsRules}
+use Rattle.kept.specs.declared.table.Table.{Table}
+use Rattle.kept.specs.View.{rowCap, rowAt, entryAt, tableOf}
+use Rattle.kept.specs.Fit.{keepsRules}
 use Rattle.table.specs.Listing.{rowIn, badFrom, repeats, repeatFrom, rowsTo, rowsOf, recordRefusal}
 use Rattle.table.specs.Working.{againTable, Workable}
 use Rattle.table.specs.Arranged.{rowFrom, ReadTo, HasClusters, Ordered, Within, unworked, arrangedTable, Makeable}
 use Rattle.table.specs.Build.{Making, makingOf, refusalOf, refusedBuild, madeOf, buildTable}
-use Rattle.table.specs.Arrays.{clustersDown, Rising}
+use Rattle.kept.specs.Arrays.{clustersDown, Rising}
 use Rattle.table.proofs.Laws.Scan.{first-before, first-high}
 use Rattle.table.proofs.Laws.Listing.{breaks, bad-is, repeat-is, rows-length, row-rules, row-facts}
 use Rattle.table.proofs.Laws.Refused.{record-bad, record-repeated, record-none}
-use Rattle.table.proofs.Laws.Column.{mem-entries}
-use Rattle.table.proofs.Laws.Marks.{clusters-are, falling-ascends}
-use Rattle.table.proofs.Laws.Through.{through-ext}
-use Rattle.table.proofs.Laws.View.{entries-table, table-sized, table-blank}
+use Rattle.kept.proofs.Laws.Column.{mem-entries}
+use Rattle.kept.proofs.Laws.Marks.{clusters-are, falling-ascends}
+use Rattle.kept.proofs.Laws.Through.{through-ext}
+use Rattle.kept.proofs.Laws.View.{entries-table, table-sized, table-blank}
 
 -- ---- refused or built
 

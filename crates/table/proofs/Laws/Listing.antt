@@ -30,7 +30,7 @@ use Rattle.cluster.proofs.Laws.Bytes.{numberAt-lt}
 use Rattle.cluster.proofs.Laws.Rule.{Keeps, kept→keeps}
 use Rattle.trees.specs.Rows.{Row, clustersOf}
 use Rattle.trees.proofs.Rows.{RowFacts}
-use Rattle.table.specs.Fit.{keepsRules}
+use Rattle.kept.specs.Fit.{keepsRules}
 use Rattle.table.specs.Listing.{bytesAt, rowIn, badFrom, clustersTo, repeats, repeatFrom, rowsTo}
 use Rattle.table.specs.Changes.{firstFrom}
 use Rattle.table.proofs.Laws.Insert.{mem-insert, insert-here, insert-there, insert-length, elem-insert, insert-falls}

@@ -34,7 +34,7 @@ use Rattle.trees.proofs.Leads.{within, coversOf-scored}
 use Rattle.trees.proofs.Search.{search}
 use Rattle.trees.proofs.SearchSum.{search-is}
 use Rattle.table.specs.Searched.{Columns, partAt, partsOf, sumKind, sumCovers, Past, Below, Starts}
-use Rattle.table.specs.Arrays.{Rising}
+use Rattle.kept.specs.Arrays.{Rising}
 
 -- ---- bisection
 

@@ -13,10 +13,10 @@ use lib.ListN.{set, length-set}
 use lib.Seq.{getD-set-same, getD-set-other}
 use Rattle.trees.specs.Rows.{Entry}
 use Rattle.trees.specs.Result.{Result}
-use Rattle.table.specs.declared.table.Table.{Table}
+use Rattle.kept.specs.declared.table.Table.{Table}
 use Rattle.table.specs.declared.tally.Tally.{Tally}
-use Rattle.table.specs.View.{rowCap, wordValues, rowAt, entryAt, entriesOf}
-use Rattle.table.specs.Arrays.{Sized}
+use Rattle.kept.specs.View.{rowCap, wordValues, rowAt, entryAt, entriesOf}
+use Rattle.kept.specs.Arrays.{Sized}
 
 abbrev pub resultIn : Tally → Result
 resultIn r = record { length = r .tuples; count = r .count; mark = r .mark; best = r .best; members = r .low + wordValues * r .high }

@@ -5,9 +5,9 @@ use Prim.Native.Nat.{_<_}
 use native.Mathlib.Omega.{arith}
 use borrow.Author.Needs.{needs}
 use borrow.Author.Tests.{not-true, not-false}
-use Rattle.table.specs.View.{rowCap}
-use Rattle.table.specs.Fit.{isFit}
-use Rattle.table.specs.Rows.{placeOf}
+use Rattle.kept.specs.View.{rowCap}
+use Rattle.kept.specs.Fit.{isFit}
+use Rattle.kept.specs.Rows.{placeOf}
 use Rattle.drawing.specs.Draw.{leafRow, hasTree}
 use Rattle.drawing.specs.Gathered.{checkedAs}
 use Rattle.drawing.proofs.Laws.Draw.{rows-capped, hasTree-no-row, hasTree-no-count, hasTree-count}

@@ -4,8 +4,8 @@ use mathlib.Core.Path.{_≡_, ap, _∙_}
 use Prim.Native.Nat.{_<_}
 use native.Mathlib.Omega.{arith}
 use borrow.Author.Needs.{needs}
-use Rattle.table.specs.View.{rowCap}
-use Rattle.table.specs.Rows.{placeOf}
+use Rattle.kept.specs.View.{rowCap}
+use Rattle.kept.specs.Rows.{placeOf}
 use Rattle.drawing.specs.Draw.{leafRow}
 use Rattle.drawing.proofs.Laws.Draw.{rows-capped, members-held}
 use Rattle.drawing.proofs.drawing.leaf_members.Statement.{statement}

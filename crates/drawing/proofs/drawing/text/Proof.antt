@@ -4,7 +4,7 @@ use mathlib.Core.Option.{none}
 use mathlib.Core.Path.{_≡_, refl}
 use native.Mathlib.Omega.{arith}
 use lib.ListN.{replicate}
-use Rattle.table.specs.declared.table.Table.{Table}
+use Rattle.kept.specs.declared.table.Table.{Table}
 use Rattle.drawing.specs.Draw.{membersOf, drawRefusal}
 use Rattle.drawing.specs.Gathered.{textCap}
 use Rattle.drawing.proofs.Laws.Front.{Front, front-count, front-of-holds}

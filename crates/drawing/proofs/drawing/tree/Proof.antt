@@ -2,7 +2,7 @@
 use borrow.Author.Needs.{needs}
 use mathlib.Core.Option.{none}
 use mathlib.Core.Path.{_≡_}
-use Rattle.table.specs.declared.table.Table.{Table}
+use Rattle.kept.specs.declared.table.Table.{Table}
 use Rattle.drawing.specs.Draw.{membersOf, drawRefusal}
 use Rattle.drawing.proofs.Laws.Front.{Front, front-count, front-of-holds}
 use Rattle.drawing.proofs.Laws.Outcome.{checked-refused, checked-done, drawable, tree-refused, tree-short, tree-drawn, tree-requires}

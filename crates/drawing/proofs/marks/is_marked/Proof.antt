@@ -2,7 +2,7 @@
 use mathlib.Core.Path.{sym}
 use borrow.Author.Needs.{needs}
 use mir.Facts.{fits-lt-pow}
-use Rattle.table.proofs.Laws.Marks.{mark-low}
+use Rattle.kept.proofs.Laws.Marks.{mark-low}
 use Rattle.drawing.proofs.Laws.Marked.{mark-past}
 use Rattle.drawing.proofs.marks.is_marked.Statement.{statement}
 use Rattle.drawing.proofs.marks.is_marked.Tie as tie

@@ -5,9 +5,9 @@ use Prim.Native.Nat.{_<_}
 use native.Mathlib.Omega.{arith}
 use borrow.Author.Needs.{needs}
 use lib.ListN.{replicate}
-use Rattle.table.specs.declared.table.Table.{Table}
-use Rattle.table.specs.View.{rowCap}
-use Rattle.table.specs.Rows.{placeOf}
+use Rattle.kept.specs.declared.table.Table.{Table}
+use Rattle.kept.specs.View.{rowCap}
+use Rattle.kept.specs.Rows.{placeOf}
 use Rattle.drawing.specs.Draw.{leafRow, drawRefusal}
 use Rattle.drawing.specs.Gathered.{textCap}
 use Rattle.drawing.proofs.Laws.Front.{Front, front-count}

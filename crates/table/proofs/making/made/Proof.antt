@@ -7,7 +7,7 @@ use denote.Ref.{now}
 use lib.ListN.{getD}
 use mir.Facts.{fits-lt-pow}
 use Rattle.cluster.specs.Bytes.{byteValues}
-use Rattle.table.specs.declared.table.Table.{Table}
+use Rattle.kept.specs.declared.table.Table.{Table}
 use Rattle.table.specs.Working.{againTable}
 use Rattle.table.proofs.Laws.Build.{InOrder, made-bad, made-repeated, made-within, made-workable, made-accepted}
 use Rattle.table.proofs.making.made.Statement.{statement}

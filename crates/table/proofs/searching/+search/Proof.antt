@@ -12,7 +12,7 @@ use Rattle.laws.specs.Cluster.{highest}
 use Rattle.laws.proofs.Cluster.{le-of-inside}
 use Rattle.laws.proofs.Tests.{true-T}
 use Rattle.table.specs.declared.tally.Tally.{Tally}
-use Rattle.table.specs.View.{wordValues}
+use Rattle.kept.specs.View.{wordValues}
 use Rattle.table.specs.Searched.{Columns, columns, Searchable}
 use Rattle.table.proofs.Readable.{LowWords}
 use Rattle.table.proofs.Searchable.{taxon-fits, start-past}

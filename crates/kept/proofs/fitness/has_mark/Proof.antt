@@ -1,0 +1,57 @@
+-- `table::fitness::has_mark` meets its contract: the mark is looked up in the word that has the row. Assumes nothing.
+use borrow.Author.Needs.{needs}
+use mathlib.Core.Path.{_≡_, sym, ap, _∙_}
+use Prim.Native.Nat.{ℕ, _+_, _-_}
+use native.Mathlib.Omega.{arith}
+use mir.Syntax.{w64}
+use mir.Val.{Fits}
+use Rattle.laws.specs.Cluster.{inside}
+use Rattle.kept.specs.Fit.{hasMark}
+use Rattle.kept.specs.Fitness.{resultIn}
+use Rattle.kept.proofs.Laws.Marks.{mark-is, mark-low, mark-high}
+use Rattle.kept.proofs.Laws.Fitness.{shifted}
+use Rattle.kept.proofs.fitness.has_mark.Statement.{statement}
+use Rattle.kept.proofs.fitness.has_mark.Tie as tie
+
+low-fits : (s : tie.Start) → Fits w64 (s .args .row .low)
+low-fits s = search needs
+
+shl-is-inside : tie.Need-shl-is-inside
+shl-is-inside c = search needs
+
+is-inside-requires : tie.Need-is-inside-requires
+is-inside-requires c κs = search needs
+
+returns : tie.Need-returns
+returns c =
+    let a = c .before .before .args in
+    c .is-inside .ensures
+    ∙ ap (λ (m : ℕ). inside m (a .row .low)) (shifted (a .i) (c .before .if1 .taken))
+    ∙ sym (mark-low (a .row .low) (a .row .high) (a .i) (c .before .if1 .taken) ∙ mark-is (a .row .low) (a .i))
+
+shl-is-inside-2 : tie.Need-shl-is-inside-2
+shl-is-inside-2 c = search needs
+
+is-inside-requires-2 : tie.Need-is-inside-requires-2
+is-inside-requires-2 c κs = search needs
+
+returns-2 : tie.Need-returns-2
+returns-2 c =
+    let s = c .before .before in
+    let a = s .args in
+    let i : a .i ≡ 64 + (a .i - 64) = omega arith in
+    c .is-inside2 .ensures
+    ∙ ap (λ (m : ℕ). inside m (a .row .high)) (shifted (a .i - 64) (omega (arith, s .pre)))
+    ∙ sym (ap (hasMark (resultIn (a .row) .members)) i
+    ∙ mark-high (a .row .low) (a .row .high) (a .i - 64) (low-fits s .fits) ∙ mark-is (a .row .high) (a .i - 64))
+
+pub has-mark-spec : {M : Type 1} → statement M
+has-mark-spec =
+    tie.close
+    (tie.spec
+    shl-is-inside
+    is-inside-requires
+    returns
+    shl-is-inside-2
+    is-inside-requires-2
+    returns-2)

@@ -1,0 +1,29 @@
+-- `table::fitness::is_blank` meets its contract: the two counts, then the rest. Assumes nothing.
+use borrow.Author.Needs.{needs}
+use borrow.Author.Tests.{eq-eqb, ne-eqb}
+use mathlib.Core.Path.{sym, _∙_}
+use Rattle.kept.specs.Fitness.{resultIn}
+use Rattle.kept.proofs.Laws.Fit.{blank-is}
+use Rattle.kept.proofs.fitness.is_blank.Statement.{statement}
+use Rattle.kept.proofs.fitness.is_blank.Tie as tie
+
+returns : tie.Need-returns
+returns c = sym (blank-is (resultIn (c .before .before .args .row)) ∙ rw (ne-eqb _ _ (c .if1 .taken)))
+
+returns-2 : tie.Need-returns-2
+returns-2 c =
+    let length = c .before .before in
+    sym (blank-is (resultIn (length .before .before .args .row)) ∙ rw (eq-eqb _ _ (length .if1 .left), ne-eqb _ _ (c .if2 .taken)))
+
+is-nothing-requires : tie.Need-is-nothing-requires
+is-nothing-requires c κs = search needs
+
+returns-3 : tie.Need-returns-3
+returns-3 c =
+    let count = c .before in
+    let length = count .before .before in
+    let v = resultIn (length .before .before .args .row) in
+    c .is-nothing .ensures ∙ sym (blank-is v ∙ rw (eq-eqb _ _ (length .if1 .left), eq-eqb _ _ (count .if2 .left)))
+
+pub is-blank-spec : {M : Type 1} → statement M
+is-blank-spec = tie.close (tie.spec returns returns-2 is-nothing-requires returns-3)

@@ -1,0 +1,35 @@
+-- `table::fitness::is_record` meets its contract: the width is tested, then the record rules tell. Assumes nothing.
+use borrow.Author.Needs.{needs}
+use borrow.Author.Tests.{lt-ltb, le-ltb}
+use mathlib.Core.Path.{ap, sym, _∙_}
+use mir.Facts.{toZ-ofZ}
+use mir.Syntax.{w32}
+use mir.Val.{SFits}
+use Rattle.cluster.specs.Rule.{isKept}
+use Rattle.kept.proofs.fitness.is_record.Statement.{statement}
+use Rattle.kept.proofs.fitness.is_record.Tie as tie
+
+weight-fits : (s : tie.Start) → SFits w32 (s .args .row .weight)
+weight-fits s = search needs
+
+returns : tie.Need-returns
+returns c = rw (le-ltb _ _ (c .if1 .taken))
+
+cast-t5 : tie.Need-cast-t5
+cast-t5 c = search needs
+
+broken-rule-requires : tie.Need-broken-rule-requires
+broken-rule-requires c κs = search needs
+
+is-kept-requires : tie.Need-is-kept-requires
+is-kept-requires c κs = search needs
+
+returns-2 : tie.Need-returns-2
+returns-2 c =
+    let width = c .before .before .before .before in
+    let s = width .before .before in
+    rw (lt-ltb _ _ (width .if1 .left))
+    (c .is-kept .ensures ∙ ap isKept (rw (toZ-ofZ (weight-fits s)) at (c .before .broken-rule .ensures)))
+
+pub is-record-spec : {M : Type 1} → statement M
+is-record-spec = tie.close (tie.spec returns cast-t5 broken-rule-requires is-kept-requires returns-2)

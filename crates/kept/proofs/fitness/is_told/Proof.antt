@@ -1,0 +1,126 @@
+-- `table::fitness::is_told` meets its contract: a count of zero by itself, and any other by the row's own mark, the two words of marks and
+-- the best weight. Assumes nothing.
+use borrow.Author.Needs.{needs}
+use mathlib.Core.Path.{_≡_, sym, _∙_}
+use native.Mathlib.Omega.{arith}
+use denote.Ref.{now}
+use lib.Count.{ones-le}
+use mir.Facts.{toZ-ofZ}
+use mir.Syntax.{w64}
+use mir.Val.{Fits, SFits}
+use Rattle.laws.proofs.Taxa.{size-pos}
+use Rattle.kept.specs.Fit.{isTold}
+use Rattle.kept.specs.Fitness.{listedIn, resultIn}
+use Rattle.kept.specs.Arrays.{clustersDown}
+use Rattle.kept.proofs.Laws.Fitness.{passed, failed, told-none, toldTests, told-is}
+use Rattle.kept.proofs.fitness.is_told.Statement.{statement}
+use Rattle.kept.proofs.fitness.is_told.Tie as tie
+
+-- ---- the fields are of their types
+cluster-fits : (s : tie.Start) → Fits w64 (s .args .row .cluster)
+cluster-fits s = search needs
+
+low-fits : (s : tie.Start) → Fits w64 (s .args .row .low)
+low-fits s = search needs
+
+high-fits : (s : tie.Start) → Fits w64 (s .args .row .high)
+high-fits s = search needs
+
+best-fits : (s : tie.Start) → SFits w64 (s .args .row .best)
+best-fits s = search needs
+
+-- ---- a count that isn't zero
+abbrev start : tie.Else1 → tie.Start
+start c = c .before .before .before
+
+live : (c : tie.Else1) → let a = start c .args in
+    isTold (clustersDown (now (a .clusters)) (a .n)) (listedIn (a .row)) (resultIn (a .row))
+    ≡ toldTests (now (a .clusters)) (a .n) (a .i) (a .row)
+live c =
+    let s = start c in
+    let p = s .pre .0 in
+    told-is (now (s .args .clusters)) (s .args .n) (s .args .i) (s .args .row) (p .rising) (p .place) (p .own)
+    (c .if1 .left) (low-fits s .fits) (high-fits s .fits)
+
+-- ---- the exits
+is-nothing-requires : tie.Need-is-nothing-requires
+is-nothing-requires c κs = search needs
+
+returns : tie.Need-returns
+returns c =
+    let a = c .before .before .before .before .args in
+    c .is-nothing .ensures
+    ∙ sym (told-none (clustersDown (now (a .clusters)) (a .n)) (listedIn (a .row)) (resultIn (a .row)) (c .before .if1 .taken))
+
+has-mark-requires : tie.Need-has-mark-requires
+has-mark-requires c κs = search needs
+
+returns-2 : tie.Need-returns-2
+returns-2 c = sym (live (c .before .before) ∙ rw (failed (c .before .has-mark .ensures) (c .if2 .taken)))
+
+is-word-fit-requires : tie.Need-is-word-fit-requires
+is-word-fit-requires c κs = search needs
+
+returns-3 : tie.Need-returns-3
+returns-3 c =
+    let own = c .before .before in
+    sym (live (own .before .before)
+    ∙ rw (passed (own .before .has-mark .ensures) (own .if2 .left), failed (c .before .is-word-fit .ensures) (c .if3 .taken)))
+
+is-word-fit-requires-2 : tie.Need-is-word-fit-requires-2
+is-word-fit-requires-2 c κs = search needs
+
+returns-4 : tie.Need-returns-4
+returns-4 c =
+    let low = c .before .before in
+    let own = low .before .before in
+    sym (live (own .before .before)
+    ∙ rw (
+      passed (own .before .has-mark .ensures) (own .if2 .left),
+      passed (low .before .is-word-fit .ensures) (low .if3 .left),
+      failed (c .before .is-word-fit2 .ensures) (c .if4 .taken),
+    ))
+
+size-requires : tie.Need-size-requires
+size-requires c κs = search needs
+
+is-light-requires : tie.Need-is-light-requires
+is-light-requires c κs =
+    let high = c .before .before in
+    let low = high .before .before in
+    let own = low .before .before in
+    let s = start (own .before .before) in
+    let r = s .args .row in
+    rw (c .before .size .ensures)
+    (size-pos (r .cluster) (λ (e : r .cluster ≡ 0). omega (arith, s .pre .1)), ones-le 64 (r .cluster) (cluster-fits s .fits))
+
+returns-5 : tie.Need-returns-5
+returns-5 c =
+    let high = c .before .before .before in
+    let low = high .before .before in
+    let own = low .before .before in
+    let s = start (own .before .before) in
+    let light = rw (toZ-ofZ (best-fits s), c .before .before .size .ensures) at (c .is-light .ensures) in
+    light
+    ∙ sym (live (own .before .before)
+    ∙ rw (
+      passed (own .before .has-mark .ensures) (own .if2 .left),
+      passed (low .before .is-word-fit .ensures) (low .if3 .left),
+      passed (high .before .is-word-fit2 .ensures) (high .if4 .left),
+    ))
+
+pub is-told-spec : {M : Type 1} → statement M
+is-told-spec =
+    tie.close
+    (tie.spec
+    is-nothing-requires
+    returns
+    has-mark-requires
+    returns-2
+    is-word-fit-requires
+    returns-3
+    is-word-fit-requires-2
+    returns-4
+    size-requires
+    is-light-requires
+    returns-5)

@@ -1,0 +1,20 @@
+-- `table::rows::leaf_set` meets its contract: the union of the rows there are to look at. Assumes nothing.
+use borrow.Author.Needs.{needs}
+use mathlib.Core.Path.{ap, _∙_}
+use Rattle.kept.specs.Rows.{unionTo}
+use Rattle.kept.proofs.rows.leaf_set.Statement.{statement}
+use Rattle.kept.proofs.rows.leaf_set.Tie as tie
+
+shown-rows-requires : tie.Need-shown-rows-requires
+shown-rows-requires c κs = search needs
+
+union-to-requires : tie.Need-union-to-requires
+union-to-requires c κs = search needs
+
+returns : tie.Need-returns
+returns c =
+    let at-rows = c .before .before .before .before in
+    c .union-to .ensures ∙ ap (unionTo (at-rows .before .args .t1 .clusters)) (at-rows .shown-rows .ensures)
+
+pub leaf-set-spec : {M : Type 1} → statement M
+leaf-set-spec = tie.close (tie.spec shown-rows-requires union-to-requires returns)

@@ -1,0 +1,58 @@
+-- `table::rows::union_to` meets its contract. The invariant: `all` is the union of the first i clusters, and i is at most n. The measure
+-- is the places left. Assumes nothing.
+use mathlib.Core.Path.{_≡_, refl, ap, _∙_}
+use Prim.Native.Nat.{_-_, _≤_}
+use native.Mathlib.Omega.{arith}
+use denote.Ref.{now}
+use Rattle.kept.specs.Rows.{unionTo}
+use Rattle.kept.proofs.Laws.Rows.{unionTo-more}
+use Rattle.kept.proofs.rows.union_to.Statement.{statement}
+use Rattle.kept.proofs.rows.union_to.Tie as tie
+
+abbrev Inv-loop : tie.InvT-loop
+Inv-loop clusters n all₀ i₀ all i = (i ≤ n) × (all ≡ unionTo clusters i)
+
+abbrev μ-loop : tie.MeasureT-loop
+μ-loop clusters n all₀ i₀ all i = n - i
+
+loop-holds : tie.Need-loop-holds Inv-loop μ-loop
+loop-holds c = (omega arith, refl)
+
+mul-all : tie.Need-mul-all Inv-loop μ-loop
+mul-all c = omega arith
+
+shared-slice-read-all : tie.Need-shared-slice-read-all Inv-loop μ-loop
+shared-slice-read-all c = omega arith
+
+add-i : tie.Need-add-i Inv-loop μ-loop
+add-i c = omega arith
+
+loop-less : tie.Need-loop-less Inv-loop μ-loop
+loop-less c = omega arith
+
+loop-again : tie.Need-loop-again Inv-loop μ-loop
+loop-again c =
+    let at-loop = c .before .before in
+    let cs = now (at-loop .before .args .clusters) in
+    (omega arith, rw (at-loop .loop .inv .1, unionTo-more cs (at-loop .loop .i)))
+
+returns : tie.Need-returns Inv-loop μ-loop
+returns c =
+    let at-loop = c .before in
+    let a = at-loop .before .args in
+    let end : at-loop .loop .i ≡ a .n = omega arith in
+    at-loop .loop .inv .1 ∙ ap (unionTo (now (a .clusters))) end
+
+pub union-to-spec : {M : Type 1} → statement M
+union-to-spec =
+    tie.close
+    (tie.spec
+    Inv-loop
+    μ-loop
+    loop-holds
+    mul-all
+    shared-slice-read-all
+    add-i
+    loop-less
+    loop-again
+    returns)

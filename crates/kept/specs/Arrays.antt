@@ -1,0 +1,36 @@
+-- The arrays of a table as the private functions see them.
+--     through f o n         what f has for the first n numbers of o, the last of them first
+--     clustersDown cs n     the first n clusters, the largest first
+--     Rising cs n           the first n clusters are there, and ascend
+--     Sized t               every array has room for 128 rows
+-- Assumes nothing.
+use mathlib.Core.Path.{_≡_}
+use mathlib.Core.List.{List, [], _∷_}
+use Prim.Native.Nat.{ℕ, zero, suc, _≤_, _<_}
+use lib.ListN.{length, getD}
+use Rattle.kept.specs.declared.table.Table.{Table}
+use Rattle.kept.specs.View.{rowCap}
+
+module _ {A : Type 0} where
+  abbrev pub through : (ℕ → A) → List ℕ → ℕ → List A
+  through f o zero = []
+  through f o (suc i) = f (getD o i 0) ∷ through f o i
+
+abbrev pub clustersDown : List ℕ → ℕ → List ℕ
+clustersDown cs zero = []
+clustersDown cs (suc i) = getD cs i 0 ∷ clustersDown cs i
+
+pub record Rising (cs : List ℕ) (n : ℕ) : Type 0 where
+  pub long : n ≤ length cs
+  pub up : (i j : ℕ) → i < j → j < n → getD cs i 0 < getD cs j 0
+
+pub record Sized (t : Table) : Type 0 where
+  pub clusters : length (t .clusters) ≡ rowCap
+  pub weights : length (t .weights) ≡ rowCap
+  pub states : length (t .states) ≡ rowCap
+  pub lengths : length (t .lengths) ≡ rowCap
+  pub counts : length (t .counts) ≡ rowCap
+  pub marks : length (t .marks) ≡ rowCap
+  pub bests : length (t .bests) ≡ rowCap
+  pub lows : length (t .«members_low») ≡ rowCap
+  pub highs : length (t .«members_high») ≡ rowCap

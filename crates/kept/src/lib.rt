@@ -1,0 +1,21 @@
+// The kept table, and what can be asked of it whatever it holds. Nothing public has a `requires`, and each `ensures` is one equation to a
+// definition of `specs/`. The crate `table` builds and rescores it, and passes these on.
+//     Table, zero_table         one value with room for 128 rows, and the one that is all zero
+//     is_fit                    every sentence of document 01's "fit", as one test
+//     row_of, leaf_set          where a cluster's row stands, and the union of all clusters
+//     COUNT_MAX, ..             the paper's limits that the crates above compare with too
+mod fitness;
+mod limits;
+mod rows;
+mod table;
+
+pub use fitness::is_fit;
+pub use limits::COUNT_MAX;
+pub use limits::DEGREE_HIGH;
+pub use limits::DEGREE_LOW;
+pub use limits::SCORED;
+pub use limits::WORD_ROWS;
+pub use rows::leaf_set;
+pub use rows::row_of;
+pub use table::Table;
+pub use table::zero_table;

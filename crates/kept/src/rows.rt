@@ -1,0 +1,65 @@
+// Looking up rows in a table, whatever it holds. Cites `specs/Rows.antt`.
+//     row_of       where the row of a cluster stands
+//     leaf_set     the union of all clusters
+use crate::limits::ROWS;
+use crate::table::Table;
+ghost use mathlib.Core.Path.{_≡_};
+ghost use Prim.Native.Nat.{_≤_};
+ghost use lib.ListN.{length};
+ghost use Rattle.kept.specs.Rows.{shownRows, placeFrom, placeOf, unionTo, leafSet};
+
+// How many rows of `t` there are to look at: none past the 128.
+fn shown_rows(t: Table) -> usize
+    ensures { λ n. ⌜ n ≡ shownRows t ⌝ }
+{
+    let n = t.rows;
+    if ROWS < n {
+        return ROWS;
+    }
+    n
+}
+
+// The first of the first `n` places that has `cluster`; `n` where none has.
+fn place_of(clusters: &[u64], n: usize, cluster: u64) -> usize
+    requires { ⌜ n ≤ length (now clusters) ⌝ }
+    ensures { λ i. ⌜ i ≡ placeFrom (now (clusters .entry)) cluster 0 n ⌝ }
+{
+    let mut i = 0;
+    while i < n {
+        if clusters[i] == cluster {
+            return i;
+        }
+        i += 1;
+    }
+    n
+}
+
+// The union of the first `n` clusters.
+fn union_to(clusters: &[u64], n: usize) -> u64
+    requires { ⌜ n ≤ length (now clusters) ⌝ }
+    ensures { λ c. ⌜ c ≡ unionTo (now (clusters .entry)) n ⌝ }
+{
+    let mut all = 0;
+    let mut i = 0;
+    while i < n {
+        all = all | clusters[i];
+        i += 1;
+    }
+    all
+}
+
+// The row of `cluster`, counted from 0; the number of rows, but no more than 128, where it has none.
+pub fn row_of(t: Table, cluster: u64) -> usize
+    ensures { λ i. ⌜ i ≡ placeOf t cluster ⌝ }
+{
+    let n = shown_rows(t);
+    place_of(&t.clusters, n, cluster)
+}
+
+// The union of the clusters of all rows: no taxon where there is no row.
+pub fn leaf_set(t: Table) -> u64
+    ensures { λ c. ⌜ c ≡ leafSet t ⌝ }
+{
+    let n = shown_rows(t);
+    union_to(&t.clusters, n)
+}
