@@ -1,4 +1,4 @@
-// Numbers in decimal, put into a line. Cites `specs/Words.antt` and the decimals of the crate `drawing`.
+// Numbers in decimal, put into a line. Cites `specs/Words.antt` and the decimals of the crate `shapes`.
 //     put_decimal     a number
 //     put_weight      a weight, with a minus sign where it is negative
 ghost use mathlib.Core.Path.{_≡_};
