@@ -1,6 +1,6 @@
 //! Streams that break the probe's format: cut off inside a case, a byte that
 //! names no operation, a length past what is allowed. What stands before the
-//! fault is answered, then comes the byte 255. From the stream format; no part
+//! fault is answered, then comes one line. From the stream format; no part
 //! of document 01.
 
 use crate::answer::{Oracle, Origin};
@@ -10,6 +10,9 @@ use crate::prng::Prng;
 use crate::records::{list_bytes, raw_bytes};
 use crate::special::house;
 use crate::stream::Ask;
+
+/// What the probe writes where the stream has a fault.
+pub const MALFORMED: &[u8] = b"malformed stream\n";
 
 pub struct Stream {
     pub bytes: Vec<u8>,
@@ -75,7 +78,7 @@ fn long_lengths(cases: &[Ask]) -> Vec<(Vec<u8>, String)> {
     all
 }
 
-/// Some good cases, then the fault, then the byte that says so.
+/// Some good cases, then the fault, then the line that says so.
 fn with_fault(rng: &mut Prng, cases: &[Ask], fault: &[u8], says: String) -> Stream {
     let (mut bytes, mut expected) = (Vec::new(), Vec::new());
     for _ in 0..rng.below(4) {
@@ -85,6 +88,6 @@ fn with_fault(rng: &mut Prng, cases: &[Ask], fault: &[u8], says: String) -> Stre
         expected.extend(Oracle::TRUE.answer(case, &origin).expect("the house list is small"));
     }
     bytes.extend(fault);
-    expected.push(255);
+    expected.extend(MALFORMED);
     Stream { bytes, expected, says }
 }

@@ -1,5 +1,5 @@
 // The probe: cases from the standard input, one after another until the input ends, and one answer for each on the standard output, by the
-// format of docs/PROBE.md. A fault in the stream is answered by one byte, and nothing after it is looked at. What an operation does is
+// format of docs/PROBE.md. A fault in the stream is answered by one line, and nothing after it is looked at. What an operation does is
 // proved in its own crate; here is proved that the probe is safe and ends. The cases of `stdin`, in order:
 //     1, 2      a record read, and one written into a longer room
 //     3 to 9    one of each other operation, on the house list of document 01
@@ -48,7 +48,7 @@ fn is_next_answered() -> bool {
     if is_answered(operation[0]) {
         return true;
     }
-    write(&[255]);
+    write(b"malformed stream\n");
     false
 }
 

@@ -10,6 +10,7 @@ use std::env;
 use std::io::{self, Read, Write};
 
 use independent::answer::{Method, Oracle, Origin};
+use independent::malformed::MALFORMED;
 use independent::stream::{Ask, Input};
 use independent::variants::{Rules, Variant};
 
@@ -24,7 +25,7 @@ fn main() -> io::Result<()> {
     let mut number = 0;
     while !input.left.is_empty() {
         let Some(ask) = Ask::decode(&mut input) else {
-            out.write_all(&[255])?;
+            out.write_all(MALFORMED)?;
             break;
         };
         let answer = oracle.answer(&ask, &Origin::default());
