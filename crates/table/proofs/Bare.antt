@@ -99,7 +99,8 @@ module _ (W : Width) (d : ℕ) (cs : List ℕ) (r : Row) where
 
   worked-tuples : List (List Beneath) → Result
   worked-tuples τs =
-      cond (isScored r) (cond (single (r .cluster)) (alone cs r) (joined W cs r (length τs) τs (firstKey (map keyOf (keep isLive τs))))) blank
+      cond (isScored r)
+      (cond (single (r .cluster)) (alone cs r) (joined W cs r (length τs) τs (firstKey (map keyOf (keep isLive τs))))) blank
 
   same-tuples : (τs : List (List Beneath)) → worked-tuples (map (map bare) τs) ≡ worked-tuples τs
   unfolding worked-tuples

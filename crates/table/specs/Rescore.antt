@@ -1,5 +1,5 @@
--- Rescoring one row of a kept table (document 01, "The table" and "What is sent back"): stated by the paper's formulas, for every fit table,
--- whether or not a build made it. Laws: `proofs/Laws/Rescore.antt`.
+-- Rescoring one row of a kept table (document 01, "The table" and "What is sent back"): stated by the paper's formulas, for every fit
+-- table, whether or not a build made it. Laws: `proofs/Laws/Rescore.antt`.
 --     Changing, changingOf r     what a rescoring sends back, and its table
 --     isScore z s                weight and state keep the record rules
 --     rescoreRefusal             why it is refused: 8 (fitness only), 9, 10 in that order

@@ -70,8 +70,11 @@ fn worked<'a>(
     i: usize,
     degree: u32,
 ) -> Tally
-    requires { ⌜ Ready (columns (now clusters) (now states) (now counts) (now marks) (now bests) (now lows) (now highs)) (now starts) weight i degree ⌝ }
-    ensures { λ r. ⌜ r ≡ fieldsTally (workedRow (columns (now (clusters .entry)) (now (states .entry)) (now (counts .entry)) (now (marks .entry)) (now (bests .entry)) (now (lows .entry)) (now (highs .entry))) weight i degree) ⌝ }
+    requires { ⌜ Ready (columns (now clusters) (now states) (now counts) (now marks) (now bests) (now lows) (now highs))
+        (now starts) weight i degree ⌝ }
+    ensures { λ r. ⌜ r ≡ fieldsTally (workedRow
+        (columns (now (clusters .entry)) (now (states .entry)) (now (counts .entry)) (now (marks .entry))
+        (now (bests .entry)) (now (lows .entry)) (now (highs .entry))) weight i degree) ⌝ }
 {
     if states[i] != SCORED {
         return none();

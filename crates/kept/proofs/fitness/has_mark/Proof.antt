@@ -1,4 +1,4 @@
--- `table::fitness::has_mark` meets its contract: the mark is looked up in the word that has the row. Assumes nothing.
+-- `kept::fitness::has_mark` meets its contract: the mark is looked up in the word that has the row. Assumes nothing.
 use borrow.Author.Needs.{needs}
 use mathlib.Core.Path.{_≡_, sym, ap, _∙_}
 use Prim.Native.Nat.{ℕ, _+_, _-_}

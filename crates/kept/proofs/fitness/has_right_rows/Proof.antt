@@ -1,4 +1,4 @@
--- `table::fitness::has_right_rows` meets its contract. The invariant: all rows are right where the first i are, and i is at most the room
+-- `kept::fitness::has_right_rows` meets its contract. The invariant: all rows are right where the first i are, and i is at most the room
 -- for rows. The measure is i. Assumes nothing.
 use borrow.Author.Needs.{needs}
 use mathlib.Core.Path.{_≡_, refl, sym, ap, _∙_}

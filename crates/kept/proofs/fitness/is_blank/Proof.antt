@@ -1,4 +1,4 @@
--- `table::fitness::is_blank` meets its contract: the two counts, then the rest. Assumes nothing.
+-- `kept::fitness::is_blank` meets its contract: the two counts, then the rest. Assumes nothing.
 use borrow.Author.Needs.{needs}
 use borrow.Author.Tests.{eq-eqb, ne-eqb}
 use mathlib.Core.Path.{sym, _∙_}

@@ -1,4 +1,4 @@
--- `table::fitness::is_empty` meets its contract: one field after the other, then the results. Assumes nothing.
+-- `kept::fitness::is_empty` meets its contract: one field after the other, then the results. Assumes nothing.
 use borrow.Author.Needs.{needs}
 use borrow.Author.Tests.{eq-eqb, ne-eqb}
 use mathlib.Core.Path.{_≡_, sym, _∙_}
@@ -21,7 +21,8 @@ returns-2 : tie.Need-returns-2
 returns-2 c =
     let cluster = c .before .before .before in
     let s = cluster .before .before in
-    let weight : isZero (s .args .row .weight) ≡ false = sym (bits-zero w32 (s .args .row .weight) (weight-fits s)) ∙ ne-eqb _ _ (c .if2 .taken) in
+    let weight : isZero (s .args .row .weight) ≡ false =
+    sym (bits-zero w32 (s .args .row .weight) (weight-fits s)) ∙ ne-eqb _ _ (c .if2 .taken) in
     sym (empty-is (entryIn (s .args .row)) ∙ rw (eq-eqb _ _ (cluster .if1 .left), weight))
 
 -- the weight is zero
@@ -46,7 +47,8 @@ returns-4 c =
     let weight = state .before .before in
     let cluster = weight .before .before .before in
     c .is-blank .ensures
-    ∙ sym (empty-is (entryIn (start weight .args .row)) ∙ rw (eq-eqb _ _ (cluster .if1 .left), weightless weight, eq-eqb _ _ (state .if3 .left)))
+    ∙ sym (empty-is (entryIn (start weight .args .row))
+    ∙ rw (eq-eqb _ _ (cluster .if1 .left), weightless weight, eq-eqb _ _ (state .if3 .left)))
 
 pub is-empty-spec : {M : Type 1} → statement M
 is-empty-spec = tie.close (tie.spec returns returns-2 returns-3 is-blank-requires returns-4)

@@ -1,4 +1,4 @@
--- `table::fitness::is_fit` meets its contract: a fit table passes each test, and where the tests before it are passed the rows tell.
+-- `kept::fitness::is_fit` meets its contract: a fit table passes each test, and where the tests before it are passed the rows tell.
 -- Assumes nothing.
 use borrow.Author.Needs.{needs}
 use mathlib.Core.Path.{_≡_, sym, subst, _∙_}

@@ -1,4 +1,4 @@
--- `table::fitness::is_length` meets its contract: the range, then the one taxon. Assumes nothing.
+-- `kept::fitness::is_length` meets its contract: the range, then the one taxon. Assumes nothing.
 use borrow.Author.Needs.{needs}
 use borrow.Author.Tests.{le-leb, lt-leb}
 use mathlib.Core.Path.{sym, _∙_}

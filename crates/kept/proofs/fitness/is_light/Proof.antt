@@ -1,4 +1,4 @@
--- `table::fitness::is_light` meets its contract: one bound after the other; the bound is the same number in both. Assumes nothing.
+-- `kept::fitness::is_light` meets its contract: one bound after the other; the bound is the same number in both. Assumes nothing.
 use borrow.Author.Needs.{needs}
 use mathlib.Core.Path.{_≡_, sym, ap, _∙_}
 use Prim.Native.Nat.{_-_, _*_}

@@ -1,4 +1,4 @@
--- `table::fitness::is_mark` meets its contract: one value after the other. Assumes nothing.
+-- `kept::fitness::is_mark` meets its contract: one value after the other. Assumes nothing.
 use borrow.Author.Tests.{eq-eqb, ne-eqb}
 use Rattle.kept.proofs.fitness.is_mark.Statement.{statement}
 use Rattle.kept.proofs.fitness.is_mark.Tie as tie

@@ -1,4 +1,4 @@
--- `table::fitness::is_nothing` meets its contract: one field after the other. Assumes nothing.
+-- `kept::fitness::is_nothing` meets its contract: one field after the other. Assumes nothing.
 use borrow.Author.Needs.{needs}
 use borrow.Author.Tests.{eq-eqb, ne-eqb}
 use mathlib.Core.Path.{sym, _∙_}
@@ -17,7 +17,8 @@ returns c = sym (nothing-is (c .before .before .args .row) ∙ rw (ne-eqb _ _ (c
 returns-2 : tie.Need-returns-2
 returns-2 c =
     let low = c .before .before in
-    sym (nothing-is (low .before .before .args .row) ∙ rw (eq-eqb _ _ (low .if1 .left), ne-eqb _ _ (c .if2 .taken)))
+    sym (nothing-is (low .before .before .args .row)
+    ∙ rw (eq-eqb _ _ (low .if1 .left), ne-eqb _ _ (c .if2 .taken)))
 
 returns-3 : tie.Need-returns-3
 returns-3 c =

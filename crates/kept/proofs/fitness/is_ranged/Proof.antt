@@ -1,4 +1,4 @@
--- `table::fitness::is_ranged` meets its contract: one range after the other. Assumes nothing.
+-- `kept::fitness::is_ranged` meets its contract: one range after the other. Assumes nothing.
 use borrow.Author.Needs.{needs}
 use borrow.Author.Tests.{le-leb, lt-leb}
 use mathlib.Core.Path.{sym, _∙_}

@@ -1,4 +1,4 @@
--- `table::fitness::is_record` meets its contract: the width is tested, then the record rules tell. Assumes nothing.
+-- `kept::fitness::is_record` meets its contract: the width is tested, then the record rules tell. Assumes nothing.
 use borrow.Author.Needs.{needs}
 use borrow.Author.Tests.{lt-ltb, le-ltb}
 use mathlib.Core.Path.{ap, sym, _∙_}

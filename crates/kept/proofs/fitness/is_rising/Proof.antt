@@ -1,4 +1,4 @@
--- `table::fitness::is_rising` meets its contract. The invariant: all clusters ascend where the first i do, and i is at most n. The measure
+-- `kept::fitness::is_rising` meets its contract. The invariant: all clusters ascend where the first i do, and i is at most n. The measure
 -- is i. Assumes nothing.
 use mathlib.Core.Path.{_≡_, refl, sym, _∙_}
 use Prim.Native.Nat.{_≤_}

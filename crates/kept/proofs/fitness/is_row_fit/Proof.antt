@@ -1,4 +1,4 @@
--- `table::fitness::is_row_fit` meets its contract: the record rules, the ranges, then what the count says. Assumes nothing.
+-- `kept::fitness::is_row_fit` meets its contract: the record rules, the ranges, then what the count says. Assumes nothing.
 use borrow.Author.Needs.{needs}
 use mathlib.Core.Path.{_≡_, sym, _∙_}
 use mathlib.Core.Bool.{_&&_}
@@ -33,7 +33,8 @@ returns-2 : tie.Need-returns-2
 returns-2 c =
     let listed = c .before .before in
     let s = listed .before .before .before in
-    sym (fit s ∙ rw (passed (listed .before .is-record .ensures) (listed .if1 .left), failed (c .before .is-ranged .ensures) (c .if2 .taken)))
+    sym (fit s
+    ∙ rw (passed (listed .before .is-record .ensures) (listed .if1 .left), failed (c .before .is-ranged .ensures) (c .if2 .taken)))
 
 is-told-requires : tie.Need-is-told-requires
 is-told-requires c κs =

@@ -1,4 +1,4 @@
--- `table::fitness::is_row_right` meets its contract: past the rows, or one of them. Assumes nothing.
+-- `kept::fitness::is_row_right` meets its contract: past the rows, or one of them. Assumes nothing.
 use borrow.Author.Needs.{needs}
 use borrow.Author.Tests.{le-leb, lt-leb}
 use Rattle.kept.proofs.fitness.is_row_right.Statement.{statement}

@@ -1,4 +1,4 @@
--- `table::fitness::is_told` meets its contract: a count of zero by itself, and any other by the row's own mark, the two words of marks and
+-- `kept::fitness::is_told` meets its contract: a count of zero by itself, and any other by the row's own mark, the two words of marks and
 -- the best weight. Assumes nothing.
 use borrow.Author.Needs.{needs}
 use mathlib.Core.Path.{_≡_, sym, _∙_}

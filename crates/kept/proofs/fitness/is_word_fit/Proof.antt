@@ -1,4 +1,4 @@
--- `table::fitness::is_word_fit` meets its contract. The invariant: each set bit of the word passes where each of the rest does, and the rest
+-- `kept::fitness::is_word_fit` meets its contract. The invariant: each set bit of the word passes where each of the rest does, and the rest
 -- is no larger. The measure is the rest. Assumes nothing.
 use borrow.Author.Needs.{needs}
 use borrow.Author.Tests.{lt-ltb, le-ltb}

@@ -1,4 +1,4 @@
--- `table::rows::leaf_set` meets its contract: the union of the rows there are to look at. Assumes nothing.
+-- `kept::rows::leaf_set` meets its contract: the union of the rows there are to look at. Assumes nothing.
 use borrow.Author.Needs.{needs}
 use mathlib.Core.Path.{ap, _∙_}
 use Rattle.kept.specs.Rows.{unionTo}

@@ -1,4 +1,4 @@
--- `table::rows::place_of` meets its contract. The invariant: what is found in all places is what is found from place i on, and i is at
+-- `kept::rows::place_of` meets its contract. The invariant: what is found in all places is what is found from place i on, and i is at
 -- most n. The measure is the places left. Assumes nothing.
 use mathlib.Core.Path.{_≡_, sym, _∙_}
 use Prim.Native.Nat.{_-_, _≤_}
@@ -41,7 +41,8 @@ loop-again : tie.Need-loop-again Inv-loop μ-loop
 loop-again c =
     let at-loop = c .before .before .before in
     let a = at-loop .before .args in
-    (omega arith, at-loop .loop .inv .1 ∙ placeFrom-more (now (a .clusters)) (a .cluster) (at-loop .loop .i) (a .n) (omega arith) (c .if1 .left))
+    let more = placeFrom-more (now (a .clusters)) (a .cluster) (at-loop .loop .i) (a .n) (omega arith) (c .if1 .left) in
+    (omega arith, at-loop .loop .inv .1 ∙ more)
 
 returns-2 : tie.Need-returns-2 Inv-loop μ-loop
 returns-2 c =

@@ -1,4 +1,4 @@
--- `table::rows::row_of` meets its contract: where its cluster is found among the rows there are to look at. Assumes nothing.
+-- `kept::rows::row_of` meets its contract: where its cluster is found among the rows there are to look at. Assumes nothing.
 use borrow.Author.Needs.{needs}
 use mathlib.Core.Path.{ap, _∙_}
 use Rattle.kept.specs.Rows.{placeFrom}
@@ -14,7 +14,8 @@ place-of-requires c κs = search needs
 returns : tie.Need-returns
 returns c =
     let at-rows = c .before .before .before .before in
-    c .place-of .ensures ∙ ap (placeFrom (at-rows .before .args .t1 .clusters) (at-rows .before .args .cluster) 0) (at-rows .shown-rows .ensures)
+    c .place-of .ensures
+    ∙ ap (placeFrom (at-rows .before .args .t1 .clusters) (at-rows .before .args .cluster) 0) (at-rows .shown-rows .ensures)
 
 pub row-of-spec : {M : Type 1} → statement M
 row-of-spec = tie.close (tie.spec shown-rows-requires place-of-requires returns)

@@ -1,4 +1,4 @@
--- `table::rows::union_to` meets its contract. The invariant: `all` is the union of the first i clusters, and i is at most n. The measure
+-- `kept::rows::union_to` meets its contract. The invariant: `all` is the union of the first i clusters, and i is at most n. The measure
 -- is the places left. Assumes nothing.
 use mathlib.Core.Path.{_≡_, refl, ap, _∙_}
 use Prim.Native.Nat.{_-_, _≤_}

@@ -50,8 +50,11 @@ returns-2 c = c .refused2 .ensures ∙ sym (made-repeated _ (in-order (c .before
 abbrev placed : tie.After-arranged-arg4 → tie.Else2
 placed c = c .before .before .before .before .before .before
 
+abbrev read : tie.Else2 → tie.After-read-all
+read c = c .before .before .before .before .before
+
 abbrev start : tie.Else2 → tie.Start
-start c = c .before .before .before .before .before .before .before
+start c = read c .before .before
 
 arranged-requires : tie.Need-arranged-requires
 arranged-requires c κs =
@@ -62,13 +65,13 @@ again-requires : tie.Need-again-requires
 again-requires c κs =
     let p = placed (c .before) in
     rw (c .arranged .ensures)
-    (made-workable (start p .args .degree) (in-order (p .before)) (p .if2 .left) (bytes (p .before .before .before .before .before)) (start p .pre))
+    (made-workable (start p .args .degree) (in-order (p .before)) (p .if2 .left) (bytes (read p)) (start p .pre))
 
 returns-3 : tie.Need-returns-3
 returns-3 c =
     let p = placed (c .before .before) in
     let worked = c .again .ensures ∙ ap (λ (t : Table). againTable t 0) (c .before .arranged .ensures) in
-    made-accepted (start p .args .degree) (in-order (p .before)) (p .if2 .left) (bytes (p .before .before .before .before .before)) (start p .pre)
+    made-accepted (start p .args .degree) (in-order (p .before)) (p .if2 .left) (bytes (read p)) (start p .pre)
     (c .again .result) worked
 
 pub made-spec : {M : Type 1} → statement M

@@ -56,7 +56,8 @@ room c = let at = c .before .before in omega (arith, at .if2 .left, capped (fits
 
 -- ---- the new score
 
-score : (c : tie.After-is-score) → c .is-score .result ≡ isScore (start (c .before .before) .args .weight) (start (c .before .before) .args .state)
+score : (c : tie.After-is-score)
+    → let s = start (c .before .before) in c .is-score .result ≡ isScore (s .args .weight) (s .args .state)
 score c =
     let s = start (c .before .before) in
     c .is-score .ensures ∙ ap (λ (z : ℤ). isScore z (s .args .state)) (toZ-ofZ (s .fits .weight))
@@ -109,8 +110,8 @@ again-requires c κs =
     let row = at .before .before .row-of in
     let found = row-found (s .args .given) (capped f) (s .args .cluster) _ (row .ensures) (at .if2 .left) in
     rw (toZ-ofZ (s .fits .weight))
-    (score-workable (s .args .given) (s .args .cluster) (s .args .weight) (s .args .state) (sized s) (true-T (fit f)) (row .result) (at .if2 .left)
-    found (true-T (sym (score (c .before)) ∙ not-false _ (c .if3 .left))) (λ j h. words s j))
+    (score-workable (s .args .given) (s .args .cluster) (s .args .weight) (s .args .state) (sized s) (true-T (fit f))
+    (row .result) (at .if2 .left) found (true-T (sym (score (c .before)) ∙ not-false _ (c .if3 .left))) (λ j h. words s j))
 
 returns-4 : tie.Need-returns-4
 returns-4 c =
@@ -121,8 +122,8 @@ returns-4 c =
     let found = row-found (s .args .given) (capped f) (s .args .cluster) _ (row .ensures) (at .if2 .left) in
     rescore-done (s .args .given) (s .args .cluster) (s .args .weight) (s .args .state) (fit f) (listed at)
     (sym (score (c .before .before)) ∙ not-false _ (c .before .if3 .left)) (c .again .result)
-    (score-done (s .args .given) (s .args .cluster) (s .args .weight) (s .args .state) (sized s) (true-T (fit f)) (row .result) (at .if2 .left)
-    found _ (toZ-ofZ (s .fits .weight)) (c .again .result) (c .again .ensures))
+    (score-done (s .args .given) (s .args .cluster) (s .args .weight) (s .args .state) (sized s) (true-T (fit f))
+    (row .result) (at .if2 .left) found _ (toZ-ofZ (s .fits .weight)) (c .again .result) (c .again .ensures))
 
 pub rescore-spec : {M : Type 1} → statement M
 rescore-spec =

@@ -144,7 +144,8 @@ module _ (t : ℕ) where
   place : (c : Reached) → c .highest .result < 64
   place c = omega (arith, c .highest .ensures, taxon-fits _ (given (reached c)) _ _ _ (asked (reached c)))
 
-  start-is : (c : Reached) → let starts = reached c .args .starts .now in getD starts (c .highest .result) 0 ≡ getD starts (highest (reached c .args .rest)) 0
+  start-is : (c : Reached)
+      → let starts = reached c .args .starts .now in getD starts (c .highest .result) 0 ≡ getD starts (highest (reached c .args .rest)) 0
   start-is c = ap (λ (h : ℕ). getD (reached c .args .starts .now) h 0) (c .highest .ensures)
 
   two : (c : More) → 2 ≤ reached (c .before .before) .args .left
@@ -205,24 +206,6 @@ module _ (t : ℕ) where
       let q = asked s in
       (q .readable, (q .some, start-past _ (given s) _ _ _ q _ (start-is found)))
 
-  returns : search-lts.Need-returns (claims t) (search-at t) search′.Post Inv μ
-  returns c = rw (c .before .if1 .taken) (c .last .ensures)
-
-  highest-requires : search-lts.Need-highest-requires (claims t) (search-at t) search′.Post Inv μ
-  highest-requires c κs = search needs
-
-  cast-start : search-lts.Need-cast-start (claims t) (search-at t) search′.Post Inv μ
-  cast-start c = record { fits = omega (arith, place c) }
-
-  mul-start : search-lts.Need-mul-start (claims t) (search-at t) search′.Post Inv μ
-  mul-start c = record { fits = omega (arith, place c) }
-
-  shared-slice-read-start : search-lts.Need-shared-slice-read-start (claims t) (search-at t) search′.Post Inv μ
-  shared-slice-read-start c = omega (arith, place (c .before), asked (reached (c .before)) .begins .long)
-
-  none-requires : search-lts.Need-none-requires (claims t) (search-at t) search′.Post Inv μ
-  none-requires c κs = search needs
-
   loop-holds : search-lts.Need-loop-holds (claims t) (search-at t) search′.Post Inv μ
   loop-holds c =
       let found = c .before .before .before in
@@ -231,18 +214,9 @@ module _ (t : ℕ) where
 
   -- ---- the next row
 
-  sub-i : search-lts.Need-sub-i (claims t) (search-at t) search′.Post Inv μ
-  sub-i c = omega arith
-
-  mul-c : search-lts.Need-mul-c (claims t) (search-at t) search′.Post Inv μ
-  mul-c c = record { fits = omega (arith, few-rows (c .before), below c) }
-
   shared-slice-read-c : search-lts.Need-shared-slice-read-c (claims t) (search-at t) search′.Post Inv μ
   shared-slice-read-c c =
       omega (arith, below (c .before), asked (start (c .before .before)) .readable .long .clusters)
-
-  is-inside-requires : search-lts.Need-is-inside-requires (claims t) (search-at t) search′.Post Inv μ
-  is-inside-requires c κs = search needs
 
   shared-slice-read-if3 : search-lts.Need-shared-slice-read-if3 (claims t) (search-at t) search′.Post Inv μ
   shared-slice-read-if3 c =
@@ -263,16 +237,7 @@ module _ (t : ℕ) where
         ),
       )
 
-  sub-other : search-lts.Need-sub-other (claims t) (search-at t) search′.Post Inv μ
-  sub-other c = le-of-inside _ _ (true-T (led (c .before) .within))
-
   -- ---- the row is all of what is left
-
-  plus-requires : search-lts.Need-plus-requires (claims t) (search-at t) search′.Post Inv μ
-  plus-requires c κs = asks (tested (c .before .before)) _ (adds-whole c)
-
-  loop-less : search-lts.Need-loop-less (claims t) (search-at t) search′.Post Inv μ
-  loop-less c = omega arith
 
   loop-again : search-lts.Need-loop-again (claims t) (search-at t) search′.Post Inv μ
   loop-again c =
@@ -282,24 +247,6 @@ module _ (t : ℕ) where
       _ (c .plus .ensures)
 
   -- ---- the row is a part of it
-
-  highest-requires-2 : search-lts.Need-highest-requires-2 (claims t) (search-at t) search′.Post Inv μ
-  highest-requires-2 c κs = search needs
-
-  cast-next : search-lts.Need-cast-next (claims t) (search-at t) search′.Post Inv μ
-  cast-next c = record { fits = omega (arith, next-small c) }
-
-  add-next : search-lts.Need-add-next (claims t) (search-at t) search′.Post Inv μ
-  add-next c = record { fits = omega (arith, next-small c) }
-
-  mul-next : search-lts.Need-mul-next (claims t) (search-at t) search′.Post Inv μ
-  mul-next c = record { fits = omega (arith, next-small c) }
-
-  shared-slice-read-next : search-lts.Need-shared-slice-read-next (claims t) (search-at t) search′.Post Inv μ
-  shared-slice-read-next c = omega (arith, next-small (c .before), asked (start (turn (part-row (c .before)))) .begins .long)
-
-  sub-search : search-lts.Need-sub-search (claims t) (search-at t) search′.Post Inv μ
-  sub-search c = omega (arith, start (turn (part-row (c .before))) .pre .1 .1 .0)
 
   search-requires : search-lts.Need-search-requires (claims t) (search-at t) search′.Post Inv μ
   search-requires c κs =
@@ -317,12 +264,6 @@ module _ (t : ℕ) where
       under-asks _ (given s) _ _ _ _ (asked s) _ (led (part-row p)) (p .before .if4 .left) _ (p .highest2 .ensures)
       _ _ (p .before .before .part .ensures) (c .search .ensures)
 
-  plus-requires-2 : search-lts.Need-plus-requires-2 (claims t) (search-at t) search′.Post Inv μ
-  plus-requires-2 c κs = let p = c .before .before .before in asks (tested (part-row p)) _ (adds-part c)
-
-  loop-less-2 : search-lts.Need-loop-less-2 (claims t) (search-at t) search′.Post Inv μ
-  loop-less-2 c = let p = c .before .before .before .before in omega (arith, tested (part-row p) .loop-test .taken)
-
   loop-again-2 : search-lts.Need-loop-again-2 (claims t) (search-at t) search′.Post Inv μ
   loop-again-2 c =
       let p = c .before .before .before .before in
@@ -333,17 +274,11 @@ module _ (t : ℕ) where
 
   -- ---- a row that adds nothing, and the end
 
-  loop-less-3 : search-lts.Need-loop-less-3 (claims t) (search-at t) search′.Post Inv μ
-  loop-less-3 c = omega arith
-
   loop-again-3 : search-lts.Need-loop-again-3 (claims t) (search-at t) search′.Post Inv μ
   loop-again-3 c =
       let at-test = c .before .before .before .before .before in
       let s = start (at-test .before) in
       running-unscored _ (given s) _ _ _ _ (asked s) _ _ _ (at-test .before .loop .inv) (at-test .loop-test .taken) (c .if3 .left)
-
-  loop-less-4 : search-lts.Need-loop-less-4 (claims t) (search-at t) search′.Post Inv μ
-  loop-less-4 c = omega arith
 
   loop-again-4 : search-lts.Need-loop-again-4 (claims t) (search-at t) search′.Post Inv μ
   loop-again-4 c =
@@ -360,37 +295,37 @@ module _ (t : ℕ) where
 
 pub +search-spec : {M : Type 1} → statement M
 +search-spec = close μ-search λ t. search-lts.spec (claims t) (search-at t) search′.Post Inv μ
-    (highest-requires t)
-    (cast-start t)
-    (mul-start t)
-    (shared-slice-read-start t)
+    (λ c κs. search needs)
+    (λ c. record { fits = omega (arith, place t c) })
+    (λ c. record { fits = omega (arith, place t c) })
+    (λ c. omega (arith, place t (c .before), asked t (reached t (c .before)) .begins .long))
     (last-requires t)
-    (returns t)
-    (none-requires t)
+    (λ c. rw (c .before .if1 .taken) (c .last .ensures))
+    (λ c κs. search needs)
     (loop-holds t)
-    (sub-i t)
-    (mul-c t)
+    (λ c. omega arith)
+    (λ c. record { fits = omega (arith, few-rows t (c .before), below t c) })
     (shared-slice-read-c t)
-    (is-inside-requires t)
+    (λ c κs. search needs)
     (shared-slice-read-if3 t)
     (part-requires t)
-    (sub-other t)
-    (plus-requires t)
-    (loop-less t)
+    (λ c. le-of-inside _ _ (true-T (led t (c .before) .within)))
+    (λ c κs. asks t (tested t (c .before .before)) _ (adds-whole t c))
+    (λ c. omega arith)
     (loop-again t)
-    (highest-requires-2 t)
-    (cast-next t)
-    (add-next t)
-    (mul-next t)
-    (shared-slice-read-next t)
-    (sub-search t)
+    (λ c κs. search needs)
+    (λ c. record { fits = omega (arith, next-small t c) })
+    (λ c. record { fits = omega (arith, next-small t c) })
+    (λ c. record { fits = omega (arith, next-small t c) })
+    (λ c. omega (arith, next-small t (c .before), asked t (start t (turn t (part-row t (c .before)))) .begins .long))
+    (λ c. omega (arith, start t (turn t (part-row t (c .before))) .pre .1 .1 .0))
     (search-requires t)
     (under-requires t)
-    (plus-requires-2 t)
-    (loop-less-2 t)
+    (λ c κs. let p = c .before .before .before in asks t (tested t (part-row t p)) _ (adds-part t c))
+    (λ c. let p = c .before .before .before .before in omega (arith, tested t (part-row t p) .loop-test .taken))
     (loop-again-2 t)
-    (loop-less-3 t)
+    (λ c. omega arith)
     (loop-again-3 t)
-    (loop-less-4 t)
+    (λ c. omega arith)
     (loop-again-4 t)
     (returns-2 t)

@@ -44,7 +44,8 @@ narrow : (c : tie.In-loop Inv-loop μ-loop) → SFits w32 (getD (c .before .loop
 narrow c =
     let at-loop = c .before in
     let s = start at-loop in
-    weight-fits (s .args .given) (s .args .cluster) (s .pre) (at-loop .loop .t) (at-loop .loop .i) (at-loop .loop .inv) (c .loop-test .taken)
+    weight-fits (s .args .given) (s .args .cluster) (s .pre) (at-loop .loop .t) (at-loop .loop .i) (at-loop .loop .inv)
+    (c .loop-test .taken)
 
 -- ---- needs
 
@@ -52,7 +53,9 @@ put-starts-requires : tie.Need-put-starts-requires Inv-loop μ-loop
 put-starts-requires c κs = (refl, c .before .before .before .before .pre .rising)
 
 loop-holds : tie.Need-loop-holds Inv-loop μ-loop
-loop-holds c = let start = c .before .before .before .before .before in partly-start (start .args .given) (start .args .cluster) (start .pre)
+loop-holds c =
+    let start = c .before .before .before .before .before in
+    partly-start (start .args .given) (start .args .cluster) (start .pre)
 
 mul-is-inside : tie.Need-mul-is-inside Inv-loop μ-loop
 mul-is-inside c = omega (arith, room c)
@@ -79,7 +82,8 @@ worked-requires c κs =
     let s = start at-loop in
     let t = at-loop .loop .t in
     let i = at-loop .loop .i in
-    rw (toZ-ofZ (narrow inside)) (ready-row (s .args .given) (s .args .cluster) (s .pre) t i (at-loop .loop .inv) _ (inside .loop-test .taken) (at-loop .before .put-starts .ensures))
+    rw (toZ-ofZ (narrow inside)) (ready-row (s .args .given) (s .args .cluster) (s .pre) t i (at-loop .loop .inv) _
+    (inside .loop-test .taken) (at-loop .before .put-starts .ensures))
 
 mul-t : tie.Need-mul-t Inv-loop μ-loop
 mul-t c = omega (arith, room (in-loop (row (c .before .before))))

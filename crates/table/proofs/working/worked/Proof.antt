@@ -93,7 +93,8 @@ returns-3 c =
     let scored = single .before .before in
     let s = start (scored .before) in
     worked-searched (columnsAt s) (s .args .starts .now) (s .args .weight) (s .args .i) (s .args .degree) (s .pre) _ _ _ (scored .if1 .left)
-    (sym (single .is-single .ensures) ∙ many .if2 .left) (own .own2 .ensures ∙ ap (λ (z : ℤ). ownTally 1 z (s .args .i)) (toZ-ofZ (narrow s)))
+    (sym (single .is-single .ensures) ∙ many .if2 .left)
+    (own .own2 .ensures ∙ ap (λ (z : ℤ). ownTally 1 z (s .args .i)) (toZ-ofZ (narrow s)))
     (found .search .ensures) (c .under .ensures)
 
 pub worked-spec : {M : Type 1} → statement M
