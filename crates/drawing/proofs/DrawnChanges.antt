@@ -13,6 +13,7 @@ use Rattle.cluster.specs.declared.refusal.Refusal.the-variants.{NoTree}
 use Rattle.cluster.specs.Writing.{Wrote}
 use Rattle.trees.specs.Rows.{Row}
 use Rattle.trees.specs.Heaviest.{firstHeaviest}
+use Rattle.shapes.specs.Drawn.{ascending, textOf}
 use Rattle.kept.specs.declared.table.Table.{Table}
 use Rattle.table.specs.Listing.{rowsOf}
 use Rattle.table.specs.Build.{buildTable}
@@ -20,7 +21,6 @@ use Rattle.table.specs.Changes.{changeAll, rescoreAll}
 use Rattle.table.proofs.Changes.{AcceptedBytes, changes-accepted}
 use Rattle.table.proofs.Theorems.{rescore-all-is-build}
 use Rattle.drawing.specs.Draw.{drawRefusal, drawTree, drawText}
-use Rattle.shapes.specs.Drawn.{ascending, textOf}
 use Rattle.drawing.proofs.LeafRow.{leaves, treesOf}
 use Rattle.drawing.proofs.DrawnTables.{treeDrawn}
 use Rattle.drawing.proofs.DrawnLists.{build-refused-iff, build-drawn-iff, build-drawTree, build-drawText}

@@ -14,13 +14,13 @@ use Rattle.cluster.specs.declared.refusal.Refusal.the-variants.{NoTree}
 use Rattle.cluster.specs.Bytes.{byteValues}
 use Rattle.trees.specs.Rows.{Row}
 use Rattle.trees.specs.Heaviest.{firstHeaviest}
+use Rattle.shapes.specs.Drawn.{ascending, textOf}
 use Rattle.kept.specs.declared.table.Table.{Table}
 use Rattle.table.specs.Listing.{rowsOf}
 use Rattle.table.specs.Build.{buildTable}
 use Rattle.table.proofs.Acceptance.{accepted-rows, built-table}
 use Rattle.table.proofs.Laws.Accepted.{Accepted}
 use Rattle.drawing.specs.Draw.{drawRefusal, drawTree, drawText}
-use Rattle.shapes.specs.Drawn.{ascending, textOf}
 use Rattle.drawing.proofs.LeafRow.{builtFrom, leaves, treesOf}
 use Rattle.drawing.proofs.DrawnTables.{treeDrawn, refused-iff, drawn-iff, drawTree-built, drawText-built}
 

@@ -31,16 +31,16 @@ use Rattle.trees.specs.Heaviest.{firstHeaviest}
 use Rattle.trees.proofs.Rows.{givenOf}
 use Rattle.trees.proofs.Theorems.{none-iff}
 use Rattle.trees.proofs.TreeFacts.{Given}
+use Rattle.shapes.specs.Drawn.{ascending, textOf}
+use Rattle.shapes.proofs.Backward.{text-reverse}
+use Rattle.shapes.proofs.Theorems.{TreeOn, trees-on, text-length-narrow, list-length-le}
 use Rattle.kept.specs.declared.table.Table.{Table}
 use Rattle.kept.specs.Fit.{isFit}
 use Rattle.table.proofs.FitTables.{Accepted, built-fit}
 use Rattle.drawing.specs.Draw.{hasTree, isDrawable}
 use Rattle.drawing.specs.Draw.{drawRefusal, putInto, drawnAs, drawTree, drawText}
-use Rattle.shapes.specs.Drawn.{ascending, textOf}
-use Rattle.shapes.proofs.Backward.{text-reverse}
 use Rattle.drawing.proofs.Laws.Draw.{refusal-no-tree, refusal-none}
 use Rattle.drawing.proofs.Laws.Outcome.{tree-refused, text-refused}
-use Rattle.shapes.proofs.Theorems.{TreeOn, trees-on, text-length-narrow, list-length-le}
 use Rattle.drawing.proofs.LeafRow.{builtFrom, leaves, treesOf, leaf-set-is, has-tree-iff}
 use Rattle.drawing.proofs.LeafTree.{first-tree, is-tree, members-back, members-are, listed, drawable}
 

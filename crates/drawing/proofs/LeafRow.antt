@@ -39,12 +39,12 @@ use Rattle.kept.specs.declared.table.Table.{Table}
 use Rattle.kept.specs.View.{rowCap, resultAt, entryAt, entriesOf, tableOf}
 use Rattle.kept.specs.Rows.{shownRows, unionTo, leafSet}
 use Rattle.kept.specs.Arrays.{clustersDown, Rising}
-use Rattle.table.proofs.FitTables.{Accepted, built-fit}
 use Rattle.kept.proofs.Laws.Column.{mem-entries}
 use Rattle.kept.proofs.Laws.Fit.{isFit→}
 use Rattle.kept.proofs.Laws.Marks.{clusters-are}
 use Rattle.kept.proofs.Laws.Rows.{placeOf-first, hasRow-is, unionTo-is}
 use Rattle.kept.proofs.Laws.View.{entries-table, table-sized}
+use Rattle.table.proofs.FitTables.{Accepted, built-fit}
 use Rattle.drawing.specs.Draw.{leafRow, hasTree}
 use Rattle.drawing.proofs.Laws.Draw.{hasTree→, hasTree-count}
 

@@ -19,8 +19,8 @@ use lib.Seq.{sets}
 use Rattle.laws.proofs.Tests.{T-true, T-false, eq→eqb}
 use Rattle.shapes.specs.Decimal.{figure, decimal}
 use Rattle.shapes.specs.Text.{comma}
-use Rattle.drawing.specs.Gathered.{commaBefore}
 use Rattle.shapes.proofs.Decimal.{decimal-one, decimal-two}
+use Rattle.drawing.specs.Gathered.{commaBefore}
 
 abbrev pub Stored : List ℕ → ℕ → List ℕ → List ℕ → ℕ → Type 0
 Stored s i l s′ j = (s′ ≡ sets s i l) × (j ≡ i + length l)

@@ -27,10 +27,10 @@ use Rattle.shapes.specs.Decimal.{decimal}
 use Rattle.shapes.specs.Shape.{smallest}
 use Rattle.shapes.specs.Text.{semicolon}
 use Rattle.shapes.specs.Parts.{partBytes}
-use Rattle.drawing.specs.Gathered.{textCap, Writable}
 use Rattle.shapes.proofs.Nests.{Nests}
 use Rattle.shapes.proofs.PartBytes.{part-taxon}
 use Rattle.shapes.proofs.Theorems.{TreeOn, tree-on, text-length-narrow}
+use Rattle.drawing.specs.Gathered.{textCap, Writable}
 use Rattle.drawing.proofs.Stores.{Stored}
 
 -- ---- the tree

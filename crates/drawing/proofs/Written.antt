@@ -25,10 +25,10 @@ use Rattle.shapes.specs.Shape.{smallest}
 use Rattle.shapes.specs.Text.{opening, closing, comma, semicolon, afterCommas, withCommas}
 use Rattle.shapes.specs.Drawn.{childrenInOrder, textOf}
 use Rattle.shapes.specs.Parts.{partBytes, childWith}
-use Rattle.drawing.specs.Gathered.{commaBefore, textCap, Writable}
 use Rattle.shapes.proofs.Nests.{Nests, Child}
 use Rattle.shapes.proofs.Parts.{Left, left-top, next-child, next-inside, next-left, partsIn, parts-none, parts-all, parts-more}
 use Rattle.shapes.proofs.PartBytes.{part-vertex}
+use Rattle.drawing.specs.Gathered.{commaBefore, textCap, Writable}
 use Rattle.drawing.proofs.Stores.{Stored, stored-more, comma-is}
 use Rattle.drawing.proofs.Writable.{nests-of, member-of, writable-at}
 

@@ -19,10 +19,10 @@ use Rattle.cluster.specs.declared.refusal.Answer.{Answer}
 use Rattle.cluster.specs.declared.refusal.Answer.the-variants.{Done, Refused}
 use Rattle.cluster.specs.declared.refusal.Refusal.{Refusal}
 use Rattle.trees.specs.Tree.{isTree}
-use Rattle.kept.specs.View.{rowCap}
-use Rattle.drawing.specs.declared.marks.Members.{Members}
 use Rattle.shapes.specs.Text.{comma}
 use Rattle.shapes.specs.Parts.{partBytes}
+use Rattle.kept.specs.View.{rowCap}
+use Rattle.drawing.specs.declared.marks.Members.{Members}
 
 abbrev pub textCap : ℕ
 textCap = 148

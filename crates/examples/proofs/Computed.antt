@@ -28,16 +28,16 @@ use Rattle.cluster.specs.Refusal.{numberOf}
 use Rattle.cluster.specs.Rule.{brokenRule}
 use Rattle.trees.specs.Rows.{scored}
 use Rattle.trees.specs.Tree.{isTree}
-use Rattle.kept.specs.declared.table.Table.{Table}
-use Rattle.kept.specs.View.{tableOf}
-use Rattle.table.specs.Listing.{rowsOf, listRefusal}
-use Rattle.table.specs.Build.{refusalOf}
-use Rattle.kept.specs.Rows.{leafSet, hasRow}
-use Rattle.table.specs.Rescore.{isScore, newTable}
 use Rattle.shapes.specs.Decimal.{figures}
 use Rattle.shapes.specs.Drawn.{shapeOf, textOf}
-use Rattle.drawing.specs.Draw.{hasTree, membersOf, isSame, isDrawable}
 use Rattle.shapes.proofs.Cases.{bytesOf as characters}
+use Rattle.kept.specs.declared.table.Table.{Table}
+use Rattle.kept.specs.View.{tableOf}
+use Rattle.kept.specs.Rows.{leafSet, hasRow}
+use Rattle.table.specs.Listing.{rowsOf, listRefusal}
+use Rattle.table.specs.Build.{refusalOf}
+use Rattle.table.specs.Rescore.{isScore, newTable}
+use Rattle.drawing.specs.Draw.{hasTree, membersOf, isSame, isDrawable}
 use Rattle.examples.specs.Case.{Drawn, Outcome, refused, drawn, Case}
 use Rattle.examples.specs.Cases.{cases}
 use Rattle.examples.specs.Told.{leafResult}

@@ -17,15 +17,15 @@ use Rattle.cluster.specs.declared.refusal.Refusal.{Refusal}
 use Rattle.cluster.specs.declared.refusal.Refusal.the-variants.{NoTree}
 use Rattle.cluster.specs.Bytes.{byteValues}
 use Rattle.cluster.specs.Refusal.{numberOf}
+use Rattle.shapes.specs.Drawn.{textOf}
+use Rattle.shapes.proofs.Cases.{bytesOf as characters}
 use Rattle.kept.specs.declared.table.Table.{Table}
 use Rattle.kept.specs.Fit.{isFit}
 use Rattle.kept.specs.Rows.{leafSet, hasRow}
 use Rattle.table.specs.Rescore.{isScore, newTable}
 use Rattle.table.proofs.FitTables.{rescored-fit}
 use Rattle.table.proofs.Laws.Rescore.{rescore-done}
-use Rattle.shapes.specs.Drawn.{textOf}
 use Rattle.drawing.specs.Draw.{hasTree, membersOf, isSame, isDrawable, drawRefusal, putInto, drawnAs, drawTree, drawText}
-use Rattle.shapes.proofs.Cases.{bytesOf as characters}
 use Rattle.drawing.proofs.DrawnTables.{enough}
 use Rattle.drawing.proofs.Laws.Draw.{refusal-no-tree, refusal-none}
 use Rattle.examples.specs.Case.{Drawn, Outcome, refused, drawn}

@@ -15,10 +15,10 @@ use lib.ListN.{length, drop}
 use Rattle.cluster.specs.Refusal.{Sent}
 use Rattle.cluster.specs.Writing.{Wrote}
 use Rattle.trees.specs.Result.{Result}
+use Rattle.shapes.proofs.Cases.{bytesOf as characters}
 use Rattle.kept.specs.declared.table.Table.{Table}
 use Rattle.kept.specs.View.{resultAt}
 use Rattle.drawing.specs.Draw.{leafRow, drawTree, drawText}
-use Rattle.shapes.proofs.Cases.{bytesOf as characters}
 use Rattle.examples.specs.Case.{Drawn, Outcome, refused, drawn}
 
 abbrev pub leafResult : Table → Result

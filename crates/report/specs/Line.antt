@@ -13,11 +13,11 @@ use Rattle.cluster.specs.declared.refusal.Answer.the-variants.{Refused}
 use Rattle.cluster.specs.declared.refusal.Refusal.{Refusal}
 use Rattle.cluster.specs.Refusal.{sentOf}
 use Rattle.cluster.specs.Writing.{Wrote}
+use Rattle.shapes.specs.Drawn.{textOf}
 use Rattle.kept.specs.declared.table.Table.{Table}
 use Rattle.kept.specs.View.{resultAt}
 use Rattle.kept.specs.Rows.{leafSet}
 use Rattle.table.specs.Build.{Making, buildTable}
-use Rattle.shapes.specs.Drawn.{textOf}
 use Rattle.drawing.specs.Draw.{leafRow, membersOf, drawRefusal, putInto}
 use Rattle.report.specs.Words.{refusedLine, treeLine}
 

@@ -31,8 +31,8 @@ use Rattle.cluster.specs.Refusal.{sentOf}
 use Rattle.trees.specs.Rows.{Row}
 use Rattle.trees.specs.Built.{builtTable}
 use Rattle.trees.proofs.Rows.{RowFacts}
-use Rattle.table.specs.Listing.{recordsIn, rowIn, badFrom, repeats, repeatFrom, rowsOf, recordRefusal}
 use Rattle.kept.specs.View.{tableOf}
+use Rattle.table.specs.Listing.{recordsIn, rowIn, badFrom, repeats, repeatFrom, rowsOf, recordRefusal}
 use Rattle.table.specs.Build.{Making, refusalOf, buildTable}
 use Rattle.table.specs.Changes.{firstFrom}
 use Rattle.table.proofs.Laws.Scan.{first-before, first-at, first-of, first-all}

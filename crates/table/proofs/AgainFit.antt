@@ -1,6 +1,6 @@
 -- Every row of a table is fit once the rows that contain a cluster are worked out again, if the other rows were fit.
 --     Listed W cs t          rows that fall, keep the record rules, and are among the rows with the clusters cs
---     again-row, again-length, again-clusters     which rows the table then has
+--     again-row, again-length     which rows the table then has
 --     again-fit              each of them is fit
 -- Assumes nothing.
 use mathlib.Core.Path.{_≡_, refl, sym, ap, _∙_, subst}
@@ -22,9 +22,9 @@ use Rattle.trees.specs.Rows.{Row, Entry, cl}
 use Rattle.trees.specs.Result.{Result}
 use Rattle.trees.specs.Rescored.{workedOut, againIf, again}
 use Rattle.kept.specs.Fit.{keepsRules, fitEntry}
+use Rattle.kept.proofs.Laws.Fit.{rules→}
 use Rattle.table.proofs.Decoded.{good-of-fit}
 use Rattle.table.proofs.KeepsFit.{Over, worked-fit}
-use Rattle.kept.proofs.Laws.Fit.{rules→}
 
 -- ---- which rows a table has once rows are worked out again
 
@@ -45,14 +45,6 @@ module _ (F : Row → List (Entry Result) → Result) (c : ℕ) where
   again-length (e ∷ t) = go (inside c (cl e)) ∙ ap suc (again-length t)
     where
       go : (b : Bool) → length (againIf F b e (again F c t)) ≡ suc (length (again F c t))
-      go true = refl
-      go false = refl
-
-  pub again-clusters : (t : List (Entry Result)) → map cl (again F c t) ≡ map cl t
-  again-clusters [] = refl
-  again-clusters (e ∷ t) = go (inside c (cl e)) ∙ ap (λ (cs : List ℕ). cl e ∷ cs) (again-clusters t)
-    where
-      go : (b : Bool) → map cl (againIf F b e (again F c t)) ≡ cl e ∷ map cl (again F c t)
       go true = refl
       go false = refl
 

@@ -30,22 +30,22 @@ use Rattle.trees.specs.Result.{Result}
 use Rattle.trees.specs.Rescored.{ownMark, workedOut, againIf, again}
 use Rattle.trees.proofs.TupleBound.{few-narrow}
 use Rattle.kept.specs.declared.table.Table.{Table}
-use Rattle.table.specs.declared.tally.Tally.{Tally}
 use Rattle.kept.specs.View.{wordValues, rowAt, entryAt, entriesOf, tableOf}
 use Rattle.kept.specs.Fit.{isEmpty, keepsRules, fitEntry}
-use Rattle.table.specs.Searched.{columnsOf, rowOf, fieldsOf, Starts, GoodRow, Sound}
-use Rattle.table.specs.Tally.{fieldsTally}
-use Rattle.table.specs.Working.{workedRow, clustersOf, againTable, Ready, Workable}
 use Rattle.kept.specs.Arrays.{clustersDown, Rising, Sized}
-use Rattle.table.proofs.AgainFit.{again-fit, Listed}
-use Rattle.table.proofs.Bare.{bare, worked-bare, beneath-bare}
-use Rattle.table.proofs.Decoded.{good-of-fit}
 use Rattle.kept.proofs.Laws.Column.{entries-length, entries-mem, mem-entries}
 use Rattle.kept.proofs.Laws.Fit.{recordIn, rules→, cluster-pos}
 use Rattle.kept.proofs.Laws.Marks.{Ascends, clusters-are, length-clustersDown, mem-clustersDown, clustersDown-mem}
 use Rattle.kept.proofs.Laws.Marks.{falling-clustersDown, mark-down}
-use Rattle.table.proofs.Laws.Stored.{resultIn, stored, stored-same, stored-other, stored-entries, stored-sized}
 use Rattle.kept.proofs.Laws.View.{Blank, empty→blank, blank→empty, blank-past, table-is}
+use Rattle.table.specs.declared.tally.Tally.{Tally}
+use Rattle.table.specs.Searched.{columnsOf, rowOf, fieldsOf, Starts, GoodRow, Sound}
+use Rattle.table.specs.Tally.{fieldsTally}
+use Rattle.table.specs.Working.{workedRow, clustersOf, againTable, Ready, Workable}
+use Rattle.table.proofs.AgainFit.{again-fit, Listed}
+use Rattle.table.proofs.Bare.{bare, worked-bare, beneath-bare}
+use Rattle.table.proofs.Decoded.{good-of-fit}
+use Rattle.table.proofs.Laws.Stored.{resultIn, stored, stored-same, stored-other, stored-entries, stored-sized}
 use Rattle.table.proofs.WorkedRow.{worked-marks}
 
 -- the fields of a row, as a tally and back

@@ -28,10 +28,10 @@ use Rattle.trees.proofs.Keys.{Sol}
 use Rattle.trees.proofs.Capped.{Res, encode, encodeSol, count-small, count-large}
 use Rattle.kept.specs.View.{wordValues}
 use Rattle.kept.specs.Fit.{isMarkedIn, fitEntry}
+use Rattle.kept.proofs.Laws.Fit.{Told, told→, →told, fit→}
 use Rattle.table.specs.Tally.{tallyWith, tallyOf, fieldsTally, decoded}
 use Rattle.table.specs.Searched.{GoodRow}
 use Rattle.table.proofs.Held.{Keeps}
-use Rattle.kept.proofs.Laws.Fit.{Told, told→, →told, fit→}
 use Rattle.table.proofs.Marked.{marked-mem, every-marked→, marksOf-marked}
 
 pub good-of-fit : (W : Width) (cs : List ℕ) (e : Entry Result) → T (fitEntry W cs e) → GoodRow (W .countMax) cs (e .row) (e .val)

@@ -18,6 +18,7 @@ use lib.IntN.{ℤ}
 use lib.ListN.{length, length-map}
 use Rattle.laws.specs.Cluster.{inside}
 use Rattle.laws.specs.Limits.{narrow, degreeLow, degreeHigh}
+use Rattle.laws.proofs.Appended.{map-through}
 use Rattle.laws.proofs.Cluster.{zero-inside}
 use Rattle.laws.proofs.Falling.{Falling}
 use Rattle.cluster.proofs.Laws.Rule.{Keeps, kept→keeps}
@@ -25,19 +26,19 @@ use Rattle.trees.specs.Rows.{Row, Entry, cl}
 use Rattle.trees.specs.Result.{Result, blank}
 use Rattle.trees.specs.Built.{builtTable}
 use Rattle.trees.specs.Rescored.{putScore, workedOut, again, rescored}
-use Rattle.trees.proofs.Rescore.{put-cluster, put-other}
+use Rattle.trees.proofs.Rescore.{put-cluster, put-other, again-clusters}
 use Rattle.trees.proofs.TupleBound.{few-narrow}
 use Rattle.kept.specs.declared.table.Table.{Table}
 use Rattle.kept.specs.View.{rowCap, entryAt, entriesOf, tableOf}
-use Rattle.table.specs.Arranged.{unworked}
 use Rattle.kept.specs.Fit.{keepsRules, fitEntry, isFit}
+use Rattle.table.specs.Arranged.{unworked}
 use Rattle.table.specs.Rescore.{isScore, newTable}
-use Rattle.table.proofs.AgainFit.{again-clusters, Listed, again-fit}
+use Rattle.table.proofs.AgainFit.{Listed, again-fit}
 pub use Rattle.table.proofs.Laws.Build.{Accepted}
-use Rattle.table.proofs.Laws.Build.{unworked-clusters, again-built}
 use Rattle.kept.proofs.Laws.Column.{entries-length, mem-entries}
 use Rattle.kept.proofs.Laws.Fit.{recordIn, rules→, →rules, fit-rules, isFit→, →isFit, fit-falls, fit-each, entries-rising}
 use Rattle.kept.proofs.Laws.View.{entries-table, table-past, blank→empty}
+use Rattle.table.proofs.Laws.Build.{unworked-clusters, again-built}
 
 -- ---- rows that may be made a table of
 
@@ -139,8 +140,7 @@ module _ (c : ℕ) (z : ℤ) (s : ℕ) (score : T (isScore z s)) where
       go false = h
 
   put-clusters : (es : List (Entry Result)) → map cl (map withScore es) ≡ map cl es
-  put-clusters [] = refl
-  put-clusters (e ∷ es) = ap₂ (λ (x : ℕ) (cs : List ℕ). x ∷ cs) (put-cluster c z s (e .row)) (put-clusters es)
+  put-clusters = map-through withScore cl cl (λ e. put-cluster c z s (e .row))
 
   module _ (d : ℕ) (es : List (Entry Result)) (k : FitRows d es) where
     pub put-rows : Rows d (map withScore es)

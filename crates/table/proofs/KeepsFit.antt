@@ -36,11 +36,11 @@ use Rattle.trees.proofs.Marks.{marks-lt, marks-inj}
 use Rattle.trees.proofs.TupleBound.{entries-le}
 use Rattle.trees.proofs.Worked.{markIn, lengthIf, trueResult, AllCounted, worked-encode}
 use Rattle.kept.specs.Fit.{isBlank, isMarkedIn, keepsRules, fitEntry}
+use Rattle.kept.proofs.Laws.Fit.{Ranged, Told, rules→, →fit}
 use Rattle.table.specs.Searched.{GoodRow}
 use Rattle.table.specs.Tally.{decoded}
 use Rattle.table.proofs.Decoded.{encode-decoded, decoded-keeps}
 use Rattle.table.proofs.Held.{Keeps, keeps-counted}
-use Rattle.kept.proofs.Laws.Fit.{Ranged, Told, rules→, →fit}
 use Rattle.table.proofs.Marked.{marked-mem, →every-marked, marksOf-marked}
 use Rattle.table.proofs.Rooted.{tuples-keep, RootedSol, own-rooted, own-times}
 

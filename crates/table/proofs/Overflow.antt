@@ -27,8 +27,8 @@ use Rattle.trees.specs.Result.{marksIn}
 use Rattle.trees.proofs.Families.{Fam, join, empty, Disj}
 use Rattle.trees.proofs.Keys.{Sol}
 use Rattle.trees.proofs.Marks.{marks-lt, marks-none, marks-join, no-carry}
-use Rattle.table.specs.declared.tally.Tally.{Tally}
 use Rattle.kept.specs.View.{rowCap, wordValues}
+use Rattle.table.specs.declared.tally.Tally.{Tally}
 use Rattle.table.specs.Tally.{tallyWith}
 use Rattle.table.proofs.Encoded.{Clear}
 use Rattle.table.proofs.Held.{Keeps, held-disj}

@@ -30,15 +30,15 @@ use Rattle.trees.specs.Rows.{Row, Entry, cl}
 use Rattle.trees.specs.Result.{Result}
 use Rattle.trees.specs.Rescored.{workedOut, putScore, againIf, again, rescored}
 use Rattle.trees.proofs.Rescore.{put-cluster, put-other, rescored-clusters}
-use Rattle.table.specs.declared.rescoring.Rescored.{Rescored}
 use Rattle.kept.specs.declared.table.Table.{Table}
 use Rattle.kept.specs.View.{rowAt, entryAt, entriesOf}
 use Rattle.kept.specs.Fit.{isFit}
-use Rattle.table.specs.Rescore.{Changing, changingOf, isScore, rescoreRefusal, newTable, changedOf, rescoreTable}
 use Rattle.kept.specs.Rows.{hasRow}
 use Rattle.kept.proofs.Laws.Column.{entries-length}
-use Rattle.table.proofs.Laws.Refused.{none-some}
 use Rattle.kept.proofs.Laws.View.{entries-table}
+use Rattle.table.specs.declared.rescoring.Rescored.{Rescored}
+use Rattle.table.specs.Rescore.{Changing, changingOf, isScore, rescoreRefusal, newTable, changedOf, rescoreTable}
+use Rattle.table.proofs.Laws.Refused.{none-some}
 
 -- ---- what a rescoring gives, by why it is refused
 

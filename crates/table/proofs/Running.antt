@@ -8,7 +8,7 @@
 use mathlib.Core.Path.{_≡_, sym, ap, ap₂, _∙_, subst}
 use mathlib.Core.Logic.{_≢_}
 use mathlib.Core.Bool.{Bool, true, false, cond, _&&_}
-use mathlib.Core.Option.{Option, none, some}
+use mathlib.Core.Option.{none}
 use mathlib.Core.List.{List, [], _∷_, map, List·Memᴰ as Mem}
 use Prim.Native.Nat.{ℕ, suc, _+_, _-_, _^_, _≤_, _<_}
 use native.Mathlib.Nat.{le-refl, le-trans}
@@ -19,11 +19,11 @@ use Rattle.laws.specs.Cluster.{inside, highest}
 use Rattle.laws.proofs.Descends.{Descends}
 use Rattle.trees.specs.Rows.{Entry, cl, sc}
 use Rattle.trees.proofs.Capped.{Res, Counted}
-use Rattle.trees.proofs.Keys.{Sol, plusSol}
 use Rattle.trees.proofs.Leads.{leads}
+use Rattle.trees.proofs.Worked.{counted-plus}
 use Rattle.trees.proofs.Search.{scan, gain, search-more, scan-ended, scan-cons, scan-added, scan-unscored, scan-outside, scan-low}
-use Rattle.table.specs.declared.tally.Tally.{Tally}
 use Rattle.kept.specs.View.{wordValues}
+use Rattle.table.specs.declared.tally.Tally.{Tally}
 use Rattle.table.specs.Tally.{tallyOf, noTally, plusTally}
 use Rattle.table.specs.Searched.{Columns, partAt, partsOf, sumKind, sumCovers, Searchable}
 use Rattle.table.proofs.Laws.Searched.{mem-parts, sumCovers-search}
@@ -42,11 +42,6 @@ scan-grows f R (e ∷ es) s =
     go : (b : Bool) → s .0 ≤ cond b (sumKind .plus s (f e)) s .0
     go true = omega arith
     go false = le-refl (s .0)
-
-counted-plus : (u v : Option Sol) → Counted u → Counted v → Counted (plusSol u v)
-counted-plus none v h k = k
-counted-plus (some x) none h k = h
-counted-plus (some x) (some y) h k = omega arith
 
 -- what a row adds, out of the first `end` rows
 abbrev adds : Columns → ℕ → ℕ → ℕ → Entry Res → Res

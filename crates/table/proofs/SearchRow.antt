@@ -29,8 +29,8 @@ use Rattle.trees.proofs.Capped.{Res, Counted}
 use Rattle.trees.proofs.Keys.{timesSol}
 use Rattle.trees.proofs.Leads.{leads, leads-of-reach}
 use Rattle.trees.proofs.Search.{gain, gain-whole, gain-part}
-use Rattle.table.specs.declared.tally.Tally.{Tally}
 use Rattle.kept.specs.View.{wordValues}
+use Rattle.table.specs.declared.tally.Tally.{Tally}
 use Rattle.table.specs.Tally.{tallyOf, underTally}
 use Rattle.table.specs.Searched.{Columns, partAt, partTally, partsOf, sumKind, sumCovers, Below, Searchable}
 use Rattle.table.proofs.Laws.Searched.{below-mono, parts-within, sumCovers-search, sumCovers-local}

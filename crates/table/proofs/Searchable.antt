@@ -18,8 +18,8 @@ use Rattle.laws.proofs.Taxa.{highest-le}
 use Rattle.trees.specs.Rows.{Entry, cl, sc}
 use Rattle.trees.proofs.Capped.{Res}
 use Rattle.kept.specs.View.{wordValues}
-use Rattle.table.specs.Searched.{Columns, partsOf, sumCovers, Past, Searchable}
 use Rattle.kept.proofs.Laws.Marks.{highest-lt}
+use Rattle.table.specs.Searched.{Columns, partsOf, sumCovers, Past, Searchable}
 use Rattle.table.proofs.Laws.Searched.{parts-length}
 use Rattle.table.proofs.CoverSums.{sumCovers-few}
 use Rattle.table.proofs.Held.{Part}

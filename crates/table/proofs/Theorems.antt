@@ -44,11 +44,12 @@ use Rattle.trees.proofs.Theorems.{rescore-is-build}
 use Rattle.kept.specs.declared.table.Table.{Table}
 use Rattle.kept.specs.View.{tableOf}
 use Rattle.kept.specs.Fit.{isFit}
+use Rattle.kept.specs.Rows.{hasRow}
+use Rattle.kept.proofs.Laws.View.{entries-table}
 use Rattle.table.specs.Listing.{recordsIn, clustersTo, rowsOf}
 use Rattle.table.specs.Build.{buildTable}
 use Rattle.table.specs.Rescore.{Changing, isScore, rescoreRefusal, newTable, rescoreTable}
 use Rattle.table.specs.Changes.{HasCluster, firstPlace, isTaken, changedBytes, changeOne, changeAll, rescoreAll}
-use Rattle.kept.specs.Rows.{hasRow}
 use Rattle.table.proofs.Laws.Accepted.{Accepted}
 use Rattle.table.proofs.Acceptance.{accepted-facts, accepted-rows, built-table}
 use Rattle.table.proofs.Changed.{changed-accepted, changed-rows}
@@ -58,7 +59,6 @@ use Rattle.table.proofs.RescoredTables.{rescore-of, rescore-accepts-iff
 use Rattle.table.proofs.Rewritten.{Bytes}
 use Rattle.table.proofs.Laws.Build.{clusters-of-rows}
 use Rattle.table.proofs.Laws.Listing.{clusters-mem, clusters-has, elem-rows}
-use Rattle.kept.proofs.Laws.View.{entries-table}
 
 -- ---- the build of an accepted list
 

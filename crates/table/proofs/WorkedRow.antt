@@ -38,18 +38,18 @@ use Rattle.trees.proofs.Families.{one, Disj}
 use Rattle.trees.proofs.Keys.{Sol, plusSol, timesSol, countKind, solKind}
 use Rattle.trees.proofs.Kind.{prodK, overTuples, valueIf, tuples-map, hom-sum, hom-second}
 use Rattle.trees.proofs.Worked.{markIn, lengthIf, trueResult}
-use Rattle.table.specs.declared.tally.Tally.{Tally}
 use Rattle.kept.specs.View.{wordValues}
+use Rattle.kept.specs.Arrays.{clustersDown}
+use Rattle.kept.proofs.Laws.Marks.{mem-clustersDown, mark-down, highest-lt}
+use Rattle.table.specs.declared.tally.Tally.{Tally}
 use Rattle.table.specs.Searched.{Columns, rowOf, fieldsOf, GoodRow, Searchable}
 use Rattle.table.specs.Searched.{sumKind, sumCovers, partsOf}
 use Rattle.table.specs.Tally.{tallyWith, tallyOf, fieldsTally, noTally, lowMark, highMark, ownTally, underTally, decoded}
 use Rattle.table.specs.Working.{beneathOf, rowWith, workedRow, Ready}
-use Rattle.kept.specs.Arrays.{clustersDown}
 use Rattle.table.proofs.Decoded.{tally-encode}
 use Rattle.table.proofs.Encoded.{Clear, tally-under}
 use Rattle.table.proofs.Held.{Keeps, keeps-counted, sum-count}
 use Rattle.table.proofs.KeepsFit.{decode, Over, beneath, worked-is, found-keeps}
-use Rattle.kept.proofs.Laws.Marks.{mem-clustersDown, mark-down, highest-lt}
 use Rattle.table.proofs.Laws.Searched.{below-le, mem-parts}
 use Rattle.table.proofs.Laws.Working.{low-mark-is, high-mark-is}
 use Rattle.table.proofs.Overflow.{Safe, Words, words-fit, light-fits, setOf, membersOf, set-coded, words-safe, words-clear}

@@ -16,8 +16,8 @@ use Rattle.cluster.specs.declared.refusal.Refusal.the-variants.{DegreeOut}
 use Rattle.cluster.specs.Refusal.{Sent, sentOf}
 use Rattle.trees.specs.Built.{builtTable}
 use Rattle.kept.specs.declared.table.Table.{Table}
-use Rattle.table.specs.declared.making.Built.{Built}
 use Rattle.kept.specs.View.{tableOf, zeroTable}
+use Rattle.table.specs.declared.making.Built.{Built}
 use Rattle.table.specs.Listing.{rowsOf, listRefusal}
 
 pub record Making : Type 0 where

@@ -21,10 +21,10 @@ use Rattle.cluster.specs.Rule.{brokenRule, isKept}
 use Rattle.trees.specs.Rows.{cl}
 use Rattle.trees.specs.Rescored.{rescored}
 use Rattle.kept.specs.declared.table.Table.{Table}
-use Rattle.table.specs.declared.rescoring.Rescored.{Rescored}
 use Rattle.kept.specs.View.{entriesOf, tableOf}
 use Rattle.kept.specs.Fit.{isFit}
 use Rattle.kept.specs.Rows.{hasRow}
+use Rattle.table.specs.declared.rescoring.Rescored.{Rescored}
 
 pub record Changing : Type 0 where
   pub sent : Sent

@@ -25,10 +25,10 @@ use Rattle.trees.proofs.Kind.{Kind, overTuples, pairKind}
 use Rattle.trees.proofs.Keys.{countKind, solKind}
 use Rattle.trees.proofs.Capped.{Res}
 use Rattle.kept.specs.declared.table.Table.{Table}
-use Rattle.table.specs.declared.tally.Tally.{Tally}
 use Rattle.kept.specs.View.{rowCap, wordValues}
 use Rattle.kept.specs.Arrays.{Rising}
 use Rattle.kept.specs.Fit.{isTold}
+use Rattle.table.specs.declared.tally.Tally.{Tally}
 use Rattle.table.specs.Tally.{decoded}
 
 pub record Columns : Type 0 where

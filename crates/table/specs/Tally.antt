@@ -15,9 +15,9 @@ use lib.Signed.{ltZ}
 use Rattle.trees.specs.Result.{Result, countField, markField}
 use Rattle.trees.proofs.Keys.{Sol}
 use Rattle.trees.proofs.Capped.{Res}
+use Rattle.kept.specs.View.{wordValues}
 use Rattle.table.specs.declared.tally.Count.{Count}
 use Rattle.table.specs.declared.tally.Tally.{Tally}
-use Rattle.kept.specs.View.{wordValues}
 
 abbrev pub tallyWith : ℕ → ℕ → Option Sol → Tally
 tallyWith limit n none = record { tuples = n; count = 0; mark = 0; best = pos 0; low = 0; high = 0 }

@@ -19,8 +19,8 @@ use Rattle.trees.specs.Rescored.{workedOut, again}
 use Rattle.kept.specs.declared.table.Table.{Table}
 use Rattle.kept.specs.View.{rowCap, wordValues, rowAt, entryAt, entriesOf, tableOf}
 use Rattle.kept.specs.Fit.{keepsRules, fitEntry, blankFrom}
-use Rattle.table.specs.Searched.{Columns, rowOf, fieldsOf, Starts, Long, Sound}
 use Rattle.kept.specs.Arrays.{clustersDown, Rising, Sized}
+use Rattle.table.specs.Searched.{Columns, rowOf, fieldsOf, Starts, Long, Sound}
 
 abbrev pub beneathOf : Columns → ℕ → List (Entry Result)
 beneathOf k zero = []

@@ -27,14 +27,14 @@ use Rattle.cluster.specs.declared.refusal.Refusal.{Refusal}
 use Rattle.cluster.specs.declared.refusal.Refusal.the-variants.{NoTree, Unfit, NoRoom}
 use Rattle.cluster.specs.Writing.{wroteOf}
 use Rattle.trees.specs.Tree.{isTree}
+use Rattle.shapes.specs.Text.{semicolon}
+use Rattle.shapes.specs.Drawn.{textOf}
+use Rattle.shapes.specs.Parts.{partBytes}
 use Rattle.kept.specs.declared.table.Table.{Table}
 use Rattle.kept.specs.Fit.{isFit}
 use Rattle.kept.specs.Rows.{leafSet}
-use Rattle.shapes.specs.Text.{semicolon}
-use Rattle.shapes.specs.Drawn.{textOf}
 use Rattle.drawing.specs.Draw.{leafRow, hasTree, membersOf, areScored, weighsBest, isDrawable}
 use Rattle.drawing.specs.Draw.{drawRefusal, drawnAs, drawTree, drawText}
-use Rattle.shapes.specs.Parts.{partBytes}
 use Rattle.drawing.specs.Gathered.{textCap, Writable, Narrow, checkedAs}
 use Rattle.drawing.proofs.Laws.Draw.{hasTree→}
 use Rattle.drawing.proofs.Laws.Front.{Front, front-count, front-of-stored}

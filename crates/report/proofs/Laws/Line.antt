@@ -44,15 +44,15 @@ use Rattle.cluster.specs.Refusal.{numberOf, positionOf, sentOf}
 use Rattle.cluster.specs.Writing.{Wrote, wroteOf}
 use Rattle.cluster.proofs.Laws.Writing.{wroteOf-inj}
 use Rattle.trees.specs.Rows.{cl}
-use Rattle.table.specs.declared.making.Built.{Built}
 use Rattle.kept.specs.declared.table.Table.{Table}
 use Rattle.kept.specs.View.{rowCap, rowAt, resultAt, entryAt, entriesOf}
 use Rattle.kept.specs.Fit.{isFit}
+use Rattle.kept.proofs.Laws.Fit.{FitRow, isFit→, fit→}
+use Rattle.table.specs.declared.making.Built.{Built}
 use Rattle.table.specs.Build.{Making, makingOf, refusalOf, buildTable}
 use Rattle.table.proofs.Acceptance.{accepts-iff, refuses-iff}
 use Rattle.table.proofs.Laws.Accepted.{Why}
 use Rattle.table.proofs.Laws.Build.{build-of}
-use Rattle.kept.proofs.Laws.Fit.{FitRow, isFit→, fit→}
 use Rattle.drawing.specs.Draw.{leafRow, hasTree, isDrawable, drawRefusal, drawText}
 use Rattle.drawing.specs.Gathered.{textCap}
 use Rattle.drawing.proofs.Laws.Weighed.{near-fits}

@@ -19,6 +19,7 @@ use lib.Dec.{T}
 use lib.ListN.{length, getD, length-map}
 use Rattle.laws.specs.Cluster.{inside}
 use Rattle.laws.specs.Limits.{narrow, degreeLow, degreeHigh}
+use Rattle.laws.proofs.Appended.{map-through}
 use Rattle.laws.proofs.Cluster.{zero-inside}
 use Rattle.laws.proofs.Tests.{T-true}
 use Rattle.cluster.specs.declared.refusal.Answer.{Answer}
@@ -36,24 +37,24 @@ use Rattle.trees.specs.Rescored.{workedOut, againIf, again}
 use Rattle.trees.proofs.Kind.{tableOf as workedFrom}
 use Rattle.trees.proofs.Rows.{RowFacts}
 use Rattle.trees.proofs.Built.{worked-is-built}
-use Rattle.table.specs.declared.listing.Listed.{Listed}
-use Rattle.table.specs.declared.listing.Order.{Order}
-use Rattle.table.specs.declared.making.Built.{Built}
 use Rattle.kept.specs.declared.table.Table.{Table}
 use Rattle.kept.specs.View.{rowCap, rowAt, entryAt, tableOf}
 use Rattle.kept.specs.Fit.{keepsRules}
-use Rattle.table.specs.Listing.{rowIn, badFrom, repeats, repeatFrom, rowsTo, rowsOf, recordRefusal}
-use Rattle.table.specs.Working.{againTable, Workable}
-use Rattle.table.specs.Arranged.{rowFrom, ReadTo, HasClusters, Ordered, Within, unworked, arrangedTable, Makeable}
-use Rattle.table.specs.Build.{Making, makingOf, refusalOf, refusedBuild, madeOf, buildTable}
 use Rattle.kept.specs.Arrays.{clustersDown, Rising}
-use Rattle.table.proofs.Laws.Scan.{first-before, first-high}
-use Rattle.table.proofs.Laws.Listing.{breaks, bad-is, repeat-is, rows-length, row-rules, row-facts}
-use Rattle.table.proofs.Laws.Refused.{record-bad, record-repeated, record-none}
 use Rattle.kept.proofs.Laws.Column.{mem-entries}
 use Rattle.kept.proofs.Laws.Marks.{clusters-are, falling-ascends}
 use Rattle.kept.proofs.Laws.Through.{through-ext}
 use Rattle.kept.proofs.Laws.View.{entries-table, table-sized, table-blank}
+use Rattle.table.specs.declared.listing.Listed.{Listed}
+use Rattle.table.specs.declared.listing.Order.{Order}
+use Rattle.table.specs.declared.making.Built.{Built}
+use Rattle.table.specs.Listing.{rowIn, badFrom, repeats, repeatFrom, rowsTo, rowsOf, recordRefusal}
+use Rattle.table.specs.Working.{againTable, Workable}
+use Rattle.table.specs.Arranged.{rowFrom, ReadTo, HasClusters, Ordered, Within, unworked, arrangedTable, Makeable}
+use Rattle.table.specs.Build.{Making, makingOf, refusalOf, refusedBuild, madeOf, buildTable}
+use Rattle.table.proofs.Laws.Scan.{first-before, first-high}
+use Rattle.table.proofs.Laws.Listing.{breaks, bad-is, repeat-is, rows-length, row-rules, row-facts}
+use Rattle.table.proofs.Laws.Refused.{record-bad, record-repeated, record-none}
 
 -- ---- refused or built
 
@@ -80,8 +81,7 @@ pub record Accepted (d : ℕ) (rs : List Row) : Type 0 where
 
 module _ (val : Row → Result) where
   pub clusters-of-rows : (rs : List Row) → map cl (map (λ (r : Row). record { row = r; val = val r }) rs) ≡ clustersOf rs
-  clusters-of-rows [] = refl
-  clusters-of-rows (r ∷ rs) = ap (λ (cs : List ℕ). r .cluster ∷ cs) (clusters-of-rows rs)
+  clusters-of-rows = map-through (λ (r : Row). record { row = r; val = val r }) cl (λ (r : Row). r .cluster) (λ r. refl)
 
 pub unworked-clusters : (rs : List Row) → map cl (map unworked rs) ≡ clustersOf rs
 unworked-clusters = clusters-of-rows (λ (r : Row). blank)

@@ -9,8 +9,8 @@ use Rattle.cluster.specs.declared.refusal.Answer.the-variants.{Done, Refused}
 use Rattle.cluster.specs.declared.refusal.Refusal.the-variants.{Unfit, NoRow, BadScore}
 use Rattle.kept.specs.declared.table.Table.{Table}
 use Rattle.kept.specs.Fit.{isFit}
-use Rattle.table.specs.Rescore.{changingOf, isScore, newTable, rescoreTable}
 use Rattle.kept.specs.Rows.{hasRow}
+use Rattle.table.specs.Rescore.{changingOf, isScore, newTable, rescoreTable}
 
 module _ (t : Table) (c : ℕ) (z : ℤ) (s : ℕ) where
   pub rescore-unfit : isFit t ≡ false → changingOf (record { answer = Refused Unfit; table = t }) ≡ rescoreTable t c z s

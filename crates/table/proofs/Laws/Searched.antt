@@ -33,8 +33,8 @@ use Rattle.trees.proofs.Kind.{overTuples, Lawful, pair-lawful}
 use Rattle.trees.proofs.Leads.{within, coversOf-scored}
 use Rattle.trees.proofs.Search.{search}
 use Rattle.trees.proofs.SearchSum.{search-is}
-use Rattle.table.specs.Searched.{Columns, partAt, partsOf, sumKind, sumCovers, Past, Below, Starts}
 use Rattle.kept.specs.Arrays.{Rising}
+use Rattle.table.specs.Searched.{Columns, partAt, partsOf, sumKind, sumCovers, Past, Below, Starts}
 
 -- ---- bisection
 

@@ -14,9 +14,9 @@ use lib.Seq.{getD-set-same, getD-set-other}
 use Rattle.trees.specs.Rows.{Entry}
 use Rattle.trees.specs.Result.{Result}
 use Rattle.kept.specs.declared.table.Table.{Table}
-use Rattle.table.specs.declared.tally.Tally.{Tally}
 use Rattle.kept.specs.View.{rowCap, wordValues, rowAt, entryAt, entriesOf}
 use Rattle.kept.specs.Arrays.{Sized}
+use Rattle.table.specs.declared.tally.Tally.{Tally}
 
 abbrev pub resultIn : Tally → Result
 resultIn r = record { length = r .tuples; count = r .count; mark = r .mark; best = r .best; members = r .low + wordValues * r .high }

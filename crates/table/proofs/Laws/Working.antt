@@ -12,8 +12,8 @@ use native.Mathlib.Omega.{arith}
 use lib.IntN.{ℤ}
 use lib.Pow.{pow-lt, pow-add, high, low}
 use borrow.Author.Tests.{lt-ltb, le-ltb}
-use Rattle.table.specs.declared.tally.Tally.{Tally}
 use Rattle.kept.specs.View.{wordValues}
+use Rattle.table.specs.declared.tally.Tally.{Tally}
 use Rattle.table.specs.Tally.{lowMark, highMark, ownTally}
 
 -- ---- the code's cases

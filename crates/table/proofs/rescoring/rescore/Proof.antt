@@ -15,10 +15,10 @@ use mir.Val.{Fits}
 use Rattle.laws.proofs.Tests.{true-T}
 use Rattle.kept.specs.View.{wordValues}
 use Rattle.kept.specs.Fit.{isFit}
-use Rattle.table.specs.Rescore.{isScore}
 use Rattle.kept.specs.Rows.{hasRow}
 use Rattle.kept.specs.Arrays.{Sized}
 use Rattle.kept.proofs.Laws.Fit.{FitTable, isFit→}
+use Rattle.table.specs.Rescore.{isScore}
 use Rattle.table.proofs.Laws.Rescore.{rescore-unfit, rescore-no-row, rescore-bad-score, rescore-done}
 use Rattle.table.proofs.Scored.{row-missing, row-listed, row-found, score-workable, score-done}
 use Rattle.table.proofs.rescoring.rescore.Statement.{statement}
