@@ -108,7 +108,7 @@ Line measure(const Bytes &list, uint32_t degree, int repeats) {
         b.push_back(y);
         ratios.push_back(x / y);
     }
-    const uint32_t times = uint32_t(std::max(1, turns / 4));
+    const uint32_t times = uint32_t(std::max(4, turns / 4));
     std::vector<double> each;
     for (int k = 0; k < repeats; k++) {
         const double none = microseconds([&] { sink = rescored(list, degree, t, worst, weight, 0); });
