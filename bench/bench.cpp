@@ -108,15 +108,16 @@ Line measure(const Bytes &list, uint32_t degree, int repeats) {
         b.push_back(y);
         ratios.push_back(x / y);
     }
+    // a rescoring and a build side by side in each repeat, so that a machine that changes its pace changes both
     const uint32_t times = uint32_t(std::max(4, turns / 4));
-    std::vector<double> each;
+    std::vector<double> rescores;
     for (int k = 0; k < repeats; k++) {
+        const double builds = microseconds([&] { for (uint32_t i = 0; i < times; i++) ours(); });
         const double none = microseconds([&] { sink = rescored(list, degree, t, worst, weight, 0); });
         const double all = microseconds([&] { sink = rescored(list, degree, t, worst, weight, times); });
-        each.push_back((all - none) / times);
+        rescores.push_back((all - none) / builds);
     }
-    const double build = spread(a).least;
-    return {build, spread(b).least, spread(ratios), spread(each).middle / build, baseline_tuples(t)};
+    return {spread(a).least, spread(b).least, spread(ratios), spread(rescores).middle, baseline_tuples(t)};
 }
 
 // How a build grows with its rows: the first 16, 32, 64 and 128 records of a list.
