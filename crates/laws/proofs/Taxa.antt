@@ -1,7 +1,7 @@
 -- The number of taxa of a cluster, one-taxon clusters, and the highest taxon.
 --     taxa-mem, mem-taxa        the one-taxon clusters of a width
 --     size-taxon, size-pos      one taxon has size 1, and what isn't nothing has 1 at least
---     size-part, size-lt, size-union     a part and the rest, a part that isn't all, and two that are apart
+--     size-part, size-lt     a part and the rest, and a part that isn't all
 --     single→, →single          exactly one taxon: a power of two
 --     inside-single             what lies inside a one-taxon cluster is that cluster
 --     highest-le, highest-gt    2 ^ highest c is the largest power of two that c reaches
@@ -15,13 +15,13 @@ use native.Mathlib.Decide.{ℕ-discrete, decLe}
 use native.Mathlib.Nat.{min-le-left, min-le-right, mod-lt, le-refl}
 use native.Mathlib.Omega.{arith}
 use lib.Arith.{bin-ind}
-use lib.Bits.{bitAnd, bitOr, and-step, and-le-r}
+use lib.Bits.{bitAnd, and-step, and-le-r}
 use lib.Count.{ones, onesIn, ones-step}
 use lib.Dec.{T, eqb→eq, lit<}
 use lib.Pow.{pow-pos, pow-mono}
-use Rattle.laws.specs.Cluster.{inside, strict, apart, size, single, taxa, halvings, highest}
+use Rattle.laws.specs.Cluster.{inside, strict, size, single, taxa, halvings, highest}
 use Rattle.laws.proofs.Tests.{eq→eqb}
-use Rattle.laws.proofs.Cluster.{inside→, inside-antisym, le-of-inside, inside-of-has, inside-union-l, rest-union, strict→}
+use Rattle.laws.proofs.Cluster.{inside→, inside-antisym, le-of-inside, inside-of-has, strict→}
 use Rattle.laws.proofs.Digits.{Has, has-of-nonzero, pow-has}
 
 -- ---- the one-taxon clusters of a width
@@ -140,10 +140,6 @@ size-lt a b h =
     let q = strict→ a b h in
     let n : b - a ≢ 0 = λ e. q .1 (omega (arith, le-of-inside a b (q .0))) in
     omega (arith, size-part a b (q .0), size-pos (b - a) n)
-
-pub size-union : (a b : ℕ) → T (apart a b) → size (bitOr a b) ≡ size a + size b
-size-union a b h =
-    sym (size-part a (bitOr a b) (inside-union-l a b)) ∙ ap (λ (x : ℕ). size a + size x) (rest-union a b h)
 
 -- ---- the highest taxon
 

@@ -5,12 +5,11 @@
 --     againTable t c            the table with every row that contains c worked out again
 --     Ready, Workable           what each may count on
 -- Assumes nothing.
-use mathlib.Core.Path.{_≡_}
 use mathlib.Core.List.{List, [], _∷_}
 use Prim.Native.Nat.{ℕ, zero, suc, _-_, _≤_, _<_}
 use lib.Dec.{T}
 use lib.IntN.{ℤ, natAbs}
-use lib.ListN.{length, getD}
+use lib.ListN.{getD}
 use Rattle.laws.specs.Cluster.{inside}
 use Rattle.laws.specs.Limits.{narrow, weightMax, degreeLow, degreeHigh}
 use Rattle.trees.specs.Rows.{Row, Entry}

@@ -6,7 +6,7 @@ use native.Mathlib.Omega.{arith}
 use lib.IntN.{ℤ, pos, _*ℤ_, _-ℤ_, negℤ, +ℤ-idl}
 use mir.Facts.{toZ-ofZ}
 use mir.Syntax.{w64}
-use mir.Val.{SFits, toZ, ofZ}
+use mir.Val.{toZ, ofZ}
 use Rattle.laws.specs.Limits.{weightMax}
 use Rattle.kept.proofs.Laws.Fitness.{most-is, minus-fits, light-low, light-high}
 use Rattle.kept.proofs.fitness.is_light.Statement.{statement}

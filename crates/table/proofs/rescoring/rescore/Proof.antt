@@ -1,12 +1,11 @@
 -- `table::rescoring::rescore` meets its contract: each refusal in its order, and else the table with the new score, worked out again.
 -- Assumes nothing.
 use mathlib.Core.Path.{_≡_, sym, ap, _∙_}
-use mathlib.Core.Bool.{true, false}
+use mathlib.Core.Bool.{true}
 use Prim.Native.Nat.{ℕ, _≤_, _<_}
 use native.Mathlib.Omega.{arith}
 use borrow.Author.Needs.{needs}
 use borrow.Author.Tests.{not-true, not-false}
-use lib.Dec.{T}
 use lib.IntN.{ℤ}
 use lib.ListN.{getD}
 use mir.Facts.{toZ-ofZ}
@@ -17,7 +16,7 @@ use Rattle.kept.specs.View.{wordValues}
 use Rattle.kept.specs.Fit.{isFit}
 use Rattle.kept.specs.Rows.{hasRow}
 use Rattle.kept.specs.Arrays.{Sized}
-use Rattle.kept.proofs.Laws.Fit.{FitTable, isFit→}
+use Rattle.kept.proofs.Laws.Fit.{isFit→}
 use Rattle.table.specs.Rescore.{isScore}
 use Rattle.table.proofs.Laws.Rescore.{rescore-unfit, rescore-no-row, rescore-bad-score, rescore-done}
 use Rattle.table.proofs.Scored.{row-missing, row-listed, row-found, score-workable, score-done}

@@ -1,6 +1,6 @@
 -- `table::working::again` meets its contract. The invariant: the first i rows are the given ones worked out again, and the rest is as
 -- given. The measure is the rows left. Assumes nothing.
-use mathlib.Core.Path.{_≡_, refl, sym, ap, _∙_}
+use mathlib.Core.Path.{refl, sym, ap, _∙_}
 use mathlib.Core.Logic.{⊎-elim}
 use Prim.Native.Nat.{_-_, _<_}
 use native.Mathlib.Omega.{arith}
