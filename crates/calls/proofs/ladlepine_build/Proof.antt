@@ -6,12 +6,6 @@ use Rattle.calls.specs.Digest.{digest}
 use Rattle.calls.proofs.ladlepine_build.Statement.{statement}
 use Rattle.calls.proofs.ladlepine_build.Tie as tie
 
-build-requires : tie.Need-build-requires
-build-requires c κs = search needs
-
-digest-of-requires : tie.Need-digest-of-requires
-digest-of-requires c κs = search needs
-
 returns : tie.Need-returns
 returns c =
     let lent = c .before .before .before .before .before .before in
@@ -20,4 +14,4 @@ returns c =
     (ap (λ (m : Making). digest (m .table)) (built .build .ensures))
 
 pub ladlepine-build-spec : {M : Type 1} → statement M
-ladlepine-build-spec = tie.close (tie.spec build-requires digest-of-requires returns)
+ladlepine-build-spec = tie.close (tie.spec (λ c κs. search needs) (λ c κs. search needs) returns)

@@ -36,20 +36,11 @@ loop-holds c = (omega arith, sym (rescoredTimes-none _ _ _ _))
 rescore-requires : tie.Need-rescore-requires Inv-loop μ-loop
 rescore-requires c κs = tt
 
-add-i : tie.Need-add-i Inv-loop μ-loop
-add-i c = search needs
-
-loop-less : tie.Need-loop-less Inv-loop μ-loop
-loop-less c = search needs
-
 loop-again : tie.Need-loop-again Inv-loop μ-loop
 loop-again c =
     let at-loop = c .before .before .before in
     let changed = c .before .rescore in
     (omega arith, rescored-more _ _ _ _ (at-loop .loop .i) (at-loop .loop .t) (changed .result) (at-loop .loop .inv .1) (changed .ensures))
-
-digest-of-requires : tie.Need-digest-of-requires Inv-loop μ-loop
-digest-of-requires c κs = search needs
 
 returns : tie.Need-returns Inv-loop μ-loop
 returns c =
@@ -73,8 +64,8 @@ ladlepine-rescore-spec =
     build-requires
     loop-holds
     rescore-requires
-    add-i
-    loop-less
+    (λ c. search needs)
+    (λ c. search needs)
     loop-again
-    digest-of-requires
+    (λ c κs. search needs)
     returns)

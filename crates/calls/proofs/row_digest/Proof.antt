@@ -11,24 +11,6 @@ use Rattle.calls.proofs.row_digest.Tie as tie
 best-fits : (s : tie.Start) → SFits w64 (s .args .best)
 best-fits s = s .fits .best
 
-wrapping-add-u64-requires : tie.Need-wrapping-add-u64-requires
-wrapping-add-u64-requires c κs = search needs
-
-wrapping-add-u64-requires-2 : tie.Need-wrapping-add-u64-requires-2
-wrapping-add-u64-requires-2 c κs = search needs
-
-bits-of-requires : tie.Need-bits-of-requires
-bits-of-requires c κs = search needs
-
-wrapping-add-u64-requires-3 : tie.Need-wrapping-add-u64-requires-3
-wrapping-add-u64-requires-3 c κs = search needs
-
-wrapping-add-u64-requires-4 : tie.Need-wrapping-add-u64-requires-4
-wrapping-add-u64-requires-4 c κs = search needs
-
-wrapping-add-u64-requires-5 : tie.Need-wrapping-add-u64-requires-5
-wrapping-add-u64-requires-5 c κs = search needs
-
 returns : tie.Need-returns
 returns c =
     let rest = c .before .before in
@@ -47,10 +29,10 @@ pub row-digest-spec : {M : Type 1} → statement M
 row-digest-spec =
     tie.close
     (tie.spec
-    wrapping-add-u64-requires
-    wrapping-add-u64-requires-2
-    bits-of-requires
-    wrapping-add-u64-requires-3
-    wrapping-add-u64-requires-4
-    wrapping-add-u64-requires-5
+    (λ c κs. search needs)
+    (λ c κs. search needs)
+    (λ c κs. search needs)
+    (λ c κs. search needs)
+    (λ c κs. search needs)
+    (λ c κs. search needs)
     returns)

@@ -15,12 +15,6 @@ loop-holds c = tt
 is-next-answered-requires : tie.Need-is-next-answered-requires Inv-loop μ-loop
 is-next-answered-requires c κs = tt
 
-sub-turns : tie.Need-sub-turns Inv-loop μ-loop
-sub-turns c = omega arith
-
-loop-less : tie.Need-loop-less Inv-loop μ-loop
-loop-less c = omega arith
-
 loop-again : tie.Need-loop-again Inv-loop μ-loop
 loop-again c = tt
 
@@ -38,8 +32,8 @@ main-spec =
     μ-loop
     loop-holds
     is-next-answered-requires
-    sub-turns
-    loop-less
+    (λ c. omega arith)
+    (λ c. omega arith)
     loop-again
     returns
     returns-2)

@@ -36,12 +36,6 @@ widened c = toZ w64 (ofZ w64 (toZ w32 (ofZ w32 (c .before .before .before .args 
 cast-w : tie.Need-cast-w
 cast-w c = rw (toZ-ofZ (c .fits .weight)) (sfits-widen {w = w32} tt (c .fits .weight))
 
-slice-aggregate-print : tie.Need-slice-aggregate-print
-slice-aggregate-print c = search needs
-
-print-requires : tie.Need-print-requires
-print-requires c κs = search needs
-
 -- the weight is negative: -1 times it is a positive number
 positive : (c : tie.After-print) → pos 0 -ℤ widened c ≡ pos (suc (mag (c .before .before .before .args .weight)))
 positive c =
@@ -57,35 +51,23 @@ cast-print-number c =
     let f = c .before .before .before .fits .weight in
     rw (toZ-ofZ (sub-print-number c), positive c) (tt, record { fits = omega arith })
 
-print-number-requires : tie.Need-print-number-requires
-print-number-requires c κs = search needs
-
-returns : tie.Need-returns
-returns c = search needs
-
 cast-print-number-2 : tie.Need-cast-print-number-2
 cast-print-number-2 c =
     let z = c .before .args .weight in
     let f = c .before .fits .weight in
     rw (wide z f) (itself-pos z f (rw (wide z f) at (c .if1 .left)))
 
-print-number-requires-2 : tie.Need-print-number-requires-2
-print-number-requires-2 c κs = search needs
-
-returns-2 : tie.Need-returns-2
-returns-2 c = search needs
-
 pub print-weight-spec : {M : Type 1} → statement M
 print-weight-spec =
     tie.close
     (tie.spec
     cast-w
-    slice-aggregate-print
-    print-requires
+    (λ c. search needs)
+    (λ c κs. search needs)
     sub-print-number
     cast-print-number
-    print-number-requires
-    returns
+    (λ c κs. search needs)
+    (λ c. search needs)
     cast-print-number-2
-    print-number-requires-2
-    returns-2)
+    (λ c κs. search needs)
+    (λ c. search needs))

@@ -14,18 +14,6 @@ use Rattle.cluster.proofs.bytes.signed_of.Tie as tie
 high : (c : tie.Else1) → negsuc 0 -ℤ toZ w32 (4294967295 - c .before .args .n) ≡ toZ w32 (c .before .args .n)
 high c = signed-high w32 _ refl (c .before .args .n) (c .if1 .left) (fits-lt-pow (c .before .fits .n))
 
-cast-result : tie.Need-cast-result
-cast-result c = search needs
-
-returns : tie.Need-returns
-returns c = search needs
-
-sub-result : tie.Need-sub-result
-sub-result c = search needs
-
-cast-result-2 : tie.Need-cast-result-2
-cast-result-2 c = search needs
-
 sub-result-2 : tie.Need-sub-result-2
 sub-result-2 c = rw (high c) (sfits-toZ (c .before .fits .n))
 
@@ -33,4 +21,4 @@ returns-2 : tie.Need-returns-2
 returns-2 c = toZ-ofZ (sub-result-2 c) ∙ high c
 
 pub signed-of-spec : {M : Type 1} → statement M
-signed-of-spec = tie.close (tie.spec cast-result returns sub-result cast-result-2 sub-result-2 returns-2)
+signed-of-spec = tie.close (tie.spec (λ c. search needs) (λ c. search needs) (λ c. search needs) (λ c. search needs) sub-result-2 returns-2)

@@ -7,12 +7,9 @@ use Rattle.laws.specs.Cluster.{single}
 use Rattle.cluster.proofs.leaves.is_single.Statement.{statement}
 use Rattle.cluster.proofs.leaves.is_single.Tie as tie
 
-size-requires : tie.Need-size-requires
-size-requires c κs = search needs
-
 returns : tie.Need-returns
 unfolding single
 returns c = ap (λ (n : ℕ). eqb n 1) (c .size .ensures)
 
 pub is-single-spec : {M : Type 1} → statement M
-is-single-spec = tie.close (tie.spec size-requires returns)
+is-single-spec = tie.close (tie.spec (λ c κs. search needs) returns)

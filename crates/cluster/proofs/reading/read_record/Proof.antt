@@ -17,25 +17,10 @@ ruling c =
     let told = rule .broken-rule .ensures ∙ ap₂ brokenRule (spare .before .record-of .ensures) (spare .has-spare .ensures) in
     sym (c .is-kept .ensures ∙ ap isKept told)
 
-not-read-requires : tie.Need-not-read-requires
-not-read-requires c κs = search needs
-
 returns : tie.Need-returns
 returns c =
     let l = now (c .before .before .before .args .bytes) in
     c .not-read .ensures ∙ sym (readRecord-length l (c .before .if1 .taken))
-
-record-of-requires : tie.Need-record-of-requires
-record-of-requires c κs = search needs
-
-has-spare-requires : tie.Need-has-spare-requires
-has-spare-requires c κs = search needs
-
-broken-rule-requires : tie.Need-broken-rule-requires
-broken-rule-requires c κs = search needs
-
-is-kept-requires : tie.Need-is-kept-requires
-is-kept-requires c κs = search needs
 
 returns-2 : tie.Need-returns-2
 returns-2 c =
@@ -44,9 +29,6 @@ returns-2 c =
     let l = now (at-length .before .before .args .bytes) in
     ap readAs (at-record .record-of .ensures)
     ∙ sym (readRecord-kept l (at-length .if1 .left) (ruling (c .before) ∙ c .if2 .taken))
-
-not-read-requires-2 : tie.Need-not-read-requires-2
-not-read-requires-2 c κs = search needs
 
 returns-3 : tie.Need-returns-3
 returns-3 c =
@@ -59,12 +41,12 @@ pub read-record-spec : {M : Type 1} → statement M
 read-record-spec =
     tie.close
     (tie.spec
-    not-read-requires
+    (λ c κs. search needs)
     returns
-    record-of-requires
-    has-spare-requires
-    broken-rule-requires
-    is-kept-requires
+    (λ c κs. search needs)
+    (λ c κs. search needs)
+    (λ c κs. search needs)
+    (λ c κs. search needs)
     returns-2
-    not-read-requires-2
+    (λ c κs. search needs)
     returns-3)

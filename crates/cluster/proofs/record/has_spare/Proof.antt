@@ -10,13 +10,10 @@ use Rattle.cluster.proofs.Laws.Record.{hasSpare-is}
 use Rattle.cluster.proofs.record.has_spare.Statement.{statement}
 use Rattle.cluster.proofs.record.has_spare.Tie as tie
 
-word-at-requires : tie.Need-word-at-requires
-word-at-requires c κs = search needs
-
 returns : tie.Need-returns
 returns c =
     ap (leb byteValues) (c .word-at .ensures)
     ∙ hasSpare-is (now (c .before .before .args .bytes)) (λ i. fits-lt-pow (c .before .shared-slice-known .given i))
 
 pub has-spare-spec : {M : Type 1} → statement M
-has-spare-spec = tie.close (tie.spec word-at-requires returns)
+has-spare-spec = tie.close (tie.spec (λ c κs. search needs) returns)

@@ -27,24 +27,6 @@ stores : (r : Record) (l : List ℕ) {a b c : List ℕ} {u : ℕ} → recordByte
     → c ≡ sets b stateAt (lowFirst wordBytes (r .state)) → u ≡ ofZ w32 (r .weight) → c ≡ bytesOf r ++ drop recordBytes l
 stores r l h k p q t e = t ∙ rw (q, p, e) (stored-is r l h k)
 
-put-word-requires : tie.Need-put-word-requires
-put-word-requires c κs = search needs
-
-unsigned-of-requires : tie.Need-unsigned-of-requires
-unsigned-of-requires c κs = search needs
-
-put-word-requires-2 : tie.Need-put-word-requires-2
-put-word-requires-2 c κs = search needs
-
-cast-put-word : tie.Need-cast-put-word
-cast-put-word c = search needs
-
-put-word-requires-3 : tie.Need-put-word-requires-3
-put-word-requires-3 c κs = search needs
-
-same-length : tie.Need-same-length
-same-length c = search needs
-
 returns : tie.Need-returns
 returns c =
     let at-state = c .before .before in
@@ -63,10 +45,10 @@ pub put-record-spec : {M : Type 1} → statement M
 put-record-spec =
     tie.close
     (tie.spec
-    put-word-requires
-    unsigned-of-requires
-    put-word-requires-2
-    cast-put-word
-    put-word-requires-3
-    same-length
+    (λ c κs. search needs)
+    (λ c κs. search needs)
+    (λ c κs. search needs)
+    (λ c. search needs)
+    (λ c κs. search needs)
+    (λ c. search needs)
     returns)

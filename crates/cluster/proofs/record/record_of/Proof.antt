@@ -23,18 +23,6 @@ fields l p q r s = cc
 weight-fits : (c : tie.After-signed-of) → SFits w32 (c .signed-of .result)
 weight-fits c = search needs
 
-word-at-requires : tie.Need-word-at-requires
-word-at-requires c κs = search needs
-
-word-at-requires-2 : tie.Need-word-at-requires-2
-word-at-requires-2 c κs = search needs
-
-signed-of-requires : tie.Need-signed-of-requires
-signed-of-requires c κs = search needs
-
-shared-slice-read-t6 : tie.Need-shared-slice-read-t6
-shared-slice-read-t6 c = search needs
-
 returns : tie.Need-returns
 returns c =
     let w = c .before .before in
@@ -45,4 +33,4 @@ returns c =
     (toZ-ofZ (weight-fits (c .before)))
 
 pub record-of-spec : {M : Type 1} → statement M
-record-of-spec = tie.close (tie.spec word-at-requires word-at-requires-2 signed-of-requires shared-slice-read-t6 returns)
+record-of-spec = tie.close (tie.spec (λ c κs. search needs) (λ c κs. search needs) (λ c κs. search needs) (λ c. search needs) returns)

@@ -48,9 +48,6 @@ last c =
 returns : tie.Need-returns
 returns c = let a = c .before .before .args in sym (rule-empty (a .r) (a .spare) (c .if1 .taken))
 
-is-state-requires : tie.Need-is-state-requires
-is-state-requires c κs = search needs
-
 returns-2 : tie.Need-returns-2
 returns-2 c =
     let t = c .before in
@@ -64,9 +61,6 @@ returns-3 c =
     let a = start s .args in
     sym (rule-spare (a .r) (a .spare) (s .before .before .if1 .left) (is-known s) (c .if3 .taken))
 
-has-unscored-weight-requires : tie.Need-has-unscored-weight-requires
-has-unscored-weight-requires c κs = search needs
-
 returns-4 : tie.Need-returns-4
 returns-4 c =
     let t = c .before in
@@ -74,9 +68,6 @@ returns-4 c =
     let a = start s .args in
     let d : unscoredWeight (a .r) ≡ true = sym (t .has-unscored-weight .ensures) ∙ c .if4 .taken in
     sym (rule-unscored (a .r) (a .spare) (s .before .before .if1 .left) (is-known s) (t .before .if3 .left) d)
-
-is-in-range-requires : tie.Need-is-in-range-requires
-is-in-range-requires c κs = search needs
 
 returns-5 : tie.Need-returns-5
 returns-5 c = sym (last (c .before) ∙ ap (λ (b : Bool). cond (not b) WeightRange Kept) (c .if5 .taken))
@@ -89,11 +80,11 @@ broken-rule-spec =
     tie.close
     (tie.spec
     returns
-    is-state-requires
+    (λ c κs. search needs)
     returns-2
     returns-3
-    has-unscored-weight-requires
+    (λ c κs. search needs)
     returns-4
-    is-in-range-requires
+    (λ c κs. search needs)
     returns-5
     returns-6)

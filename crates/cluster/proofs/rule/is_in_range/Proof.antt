@@ -6,9 +6,6 @@ use Rattle.cluster.proofs.Laws.Rule.{range-low, range-high}
 use Rattle.cluster.proofs.rule.is_in_range.Statement.{statement}
 use Rattle.cluster.proofs.rule.is_in_range.Tie as tie
 
-sub-if1 : tie.Need-sub-if1
-sub-if1 c = search needs
-
 returns : tie.Need-returns
 returns c = sym (range-low (c .before .args .weight) (rw (toZ-ofZ (c .before .fits .weight)) at (c .if1 .taken)))
 
@@ -18,4 +15,4 @@ returns-2 c =
     (range-high (c .before .args .weight) (rw (toZ-ofZ (c .before .fits .weight)) at (c .if1 .left)))
 
 pub is-in-range-spec : {M : Type 1} → statement M
-is-in-range-spec = tie.close (tie.spec sub-if1 returns returns-2)
+is-in-range-spec = tie.close (tie.spec (λ c. search needs) returns returns-2)

@@ -19,12 +19,6 @@ ruling c = sym (c .is-kept .ensures ∙ ap isKept (c .before .broken-rule .ensur
 kept : (c : tie.Else1) → isKept (brokenRule (c .before .before .before .before .args .r) false) ≡ true
 kept c = ruling (c .before) ∙ not-false (c .before .is-kept .result) (c .if1 .left)
 
-broken-rule-requires : tie.Need-broken-rule-requires
-broken-rule-requires c κs = search needs
-
-is-kept-requires : tie.Need-is-kept-requires
-is-kept-requires c κs = search needs
-
 returns : tie.Need-returns
 returns c =
     let a = c .before .before .before .before .args in
@@ -35,12 +29,6 @@ returns-2 c =
     let a = c .before .before .before .before .before .args in
     sym (writeRecord-short (a .r) (now (a .room)) (kept (c .before)) (c .if2 .taken))
 
-put-record-requires : tie.Need-put-record-requires
-put-record-requires c κs = search needs
-
-same-length : tie.Need-same-length
-same-length c = search needs
-
 returns-3 : tie.Need-returns-3
 returns-3 c =
     let at-length = c .before .before .before .before in
@@ -50,4 +38,4 @@ returns-3 c =
 
 pub write-record-spec : {M : Type 1} → statement M
 write-record-spec =
-    tie.close (tie.spec broken-rule-requires is-kept-requires returns returns-2 put-record-requires same-length returns-3)
+    tie.close (tie.spec (λ c κs. search needs) (λ c κs. search needs) returns returns-2 (λ c κs. search needs) (λ c. search needs) returns-3)

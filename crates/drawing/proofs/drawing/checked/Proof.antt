@@ -46,12 +46,6 @@ returns c =
     let no = sym (c .before .is-fit .ensures) ∙ not-true _ (c .if1 .taken) in
     sym (ap checkedAs (refusal-unfit (c .before .before .args .t1) no))
 
-leaf-set-requires : tie.Need-leaf-set-requires
-leaf-set-requires c κs = search needs
-
-row-of-requires : tie.Need-row-of-requires
-row-of-requires c κs = search needs
-
 returns-2 : tie.Need-returns-2
 returns-2 c =
     let at = c .before in
@@ -91,8 +85,8 @@ checked-spec =
     (tie.spec
     is-fit-requires
     returns
-    leaf-set-requires
-    row-of-requires
+    (λ c κs. search needs)
+    (λ c κs. search needs)
     returns-2
     mul-if3
     element-copy-out-if3

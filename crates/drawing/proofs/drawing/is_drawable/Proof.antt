@@ -57,9 +57,6 @@ array-share-prefix-xs c = front-of-holds (c .before .leaf-members .ensures) .fit
 slice-aggregate-is-tree : tie.Need-slice-aggregate-is-tree
 slice-aggregate-is-tree c = front-count (front-of-holds (c .before .before .leaf-members .ensures))
 
-leaf-set-requires : tie.Need-leaf-set-requires
-leaf-set-requires c κs = search needs
-
 is-tree-requires : tie.Need-is-tree-requires
 is-tree-requires c κs = let start = first-start (c .before .before .before .before) in degree-some (start .args .t1) (start .pre .0)
 
@@ -96,7 +93,7 @@ is-drawable-spec =
     leaf-members-requires
     array-share-prefix-xs
     slice-aggregate-is-tree
-    leaf-set-requires
+    (λ c κs. search needs)
     is-tree-requires
     returns-2
     weighs-best-requires

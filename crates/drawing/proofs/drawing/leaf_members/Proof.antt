@@ -22,9 +22,6 @@ row-lt c = let start = c .before .before in omega (arith, row-is c, start .pre .
 leaf-set-requires : tie.Need-leaf-set-requires
 leaf-set-requires c κs = search needs
 
-row-of-requires : tie.Need-row-of-requires
-row-of-requires c κs = search needs
-
 mul-low : tie.Need-mul-low
 mul-low c = omega (arith, row-lt c)
 
@@ -51,7 +48,7 @@ leaf-members-spec =
     tie.close
     (tie.spec
     leaf-set-requires
-    row-of-requires
+    (λ c κs. search needs)
     mul-low
     element-copy-out-low
     mul-high

@@ -16,17 +16,8 @@ abbrev μ-loop : tie.MeasureT-loop
 loop-holds : tie.Need-loop-holds Inv-loop μ-loop
 loop-holds c = copied-none _ _
 
-shared-slice-read-room : tie.Need-shared-slice-read-room Inv-loop μ-loop
-shared-slice-read-room c = omega arith
-
 slice-write-room : tie.Need-slice-write-room Inv-loop μ-loop
 slice-write-room c = let at-loop = c .before .before in omega (arith, copied-length (at-loop .before .pre) (at-loop .loop .inv))
-
-add-i : tie.Need-add-i Inv-loop μ-loop
-add-i c = omega arith
-
-loop-less : tie.Need-loop-less Inv-loop μ-loop
-loop-less c = omega arith
 
 loop-again : tie.Need-loop-again Inv-loop μ-loop
 loop-again c = let at-loop = c .before .before in copied-more (at-loop .before .pre) (at-loop .loop .inv) (c .before .loop-test .taken)
@@ -39,4 +30,4 @@ returns c = copied-all (c .before .before .pre) (c .before .loop .inv) (c .loop-
 
 pub put-bytes-spec : {M : Type 1} → statement M
 put-bytes-spec =
-    tie.close (tie.spec Inv-loop μ-loop loop-holds shared-slice-read-room slice-write-room add-i loop-less loop-again same-length returns)
+    tie.close (tie.spec Inv-loop μ-loop loop-holds (λ c. omega arith) slice-write-room (λ c. omega arith) (λ c. omega arith) loop-again same-length returns)

@@ -17,12 +17,6 @@ abbrev μ-loop : tie.MeasureT-loop
 loop-holds : tie.Need-loop-holds Inv-loop μ-loop
 loop-holds c = copied-none _ _
 
-mul-room : tie.Need-mul-room Inv-loop μ-loop
-mul-room c = omega arith
-
-shared-slice-read-room : tie.Need-shared-slice-read-room Inv-loop μ-loop
-shared-slice-read-room c = omega arith
-
 cast-room : tie.Need-cast-room Inv-loop μ-loop
 cast-room c =
     let at-loop = c .before .before in
@@ -30,17 +24,8 @@ cast-room c =
     let i = at-loop .loop .i in
     omega (arith, at-loop .before .pre .1 _ (mem-at clusters i (c .before .loop-test .taken)))
 
-mul-room-2 : tie.Need-mul-room-2 Inv-loop μ-loop
-mul-room-2 c = omega arith
-
 slice-write-room : tie.Need-slice-write-room Inv-loop μ-loop
 slice-write-room c = let at-loop = c .before .before in omega (arith, copied-length (at-loop .before .pre .0) (at-loop .loop .inv))
-
-add-i : tie.Need-add-i Inv-loop μ-loop
-add-i c = omega arith
-
-loop-less : tie.Need-loop-less Inv-loop μ-loop
-loop-less c = omega arith
 
 loop-again : tie.Need-loop-again Inv-loop μ-loop
 loop-again c = let at-loop = c .before .before in copied-more (at-loop .before .pre .0) (at-loop .loop .inv) (c .before .loop-test .taken)
@@ -58,13 +43,13 @@ put-clusters-spec =
     Inv-loop
     μ-loop
     loop-holds
-    mul-room
-    shared-slice-read-room
+    (λ c. omega arith)
+    (λ c. omega arith)
     cast-room
-    mul-room-2
+    (λ c. omega arith)
     slice-write-room
-    add-i
-    loop-less
+    (λ c. omega arith)
+    (λ c. omega arith)
     loop-again
     same-length
     returns)

@@ -35,23 +35,11 @@ written c =
     let top = c .before .before .before .leaf-set .ensures in
     front-of-text d (replicate textCap 0) (gathered (members-in c)) top refl (put .0) (put .1)
 
-checked-requires : tie.Need-checked-requires
-checked-requires c κs = search needs
-
-enum-known-answer : tie.Need-enum-known-answer
-enum-known-answer c = search needs
-
 returns : tie.Need-returns
 returns c = text-refused _ _ (checked-refused _ (c .before .before .before .checked .ensures) (c .before .answer .given .1))
 
-enum-told : tie.Need-enum-told
-enum-told c = search needs
-
 leaf-members-requires : tie.Need-leaf-members-requires
 leaf-members-requires c κs = let d = drawable _ (allowed c) in (d .fit, d .row)
-
-leaf-set-requires : tie.Need-leaf-set-requires
-leaf-set-requires c κs = search needs
 
 array-share-prefix-xs : tie.Need-array-share-prefix-xs
 array-share-prefix-xs c = gathered (c .before .before) .fits
@@ -77,9 +65,6 @@ slice-aggregate-put-bytes c = front-count (written (c .before .before))
 put-bytes-requires : tie.Need-put-bytes-requires
 put-bytes-requires c κs = let at-room = c .before .before in omega (arith, front-count (written (at-room .before)), at-room .if1 .left)
 
-same-length : tie.Need-same-length
-same-length c = search needs
-
 returns-3 : tie.Need-returns-3
 returns-3 c =
     let copied = c .before .before in
@@ -91,12 +76,12 @@ pub text-spec : {M : Type 1} → statement M
 text-spec =
     tie.close
     (tie.spec
-    checked-requires
-    enum-known-answer
+    (λ c κs. search needs)
+    (λ c. search needs)
     returns
-    enum-told
+    (λ c. search needs)
     leaf-members-requires
-    leaf-set-requires
+    (λ c κs. search needs)
     array-share-prefix-xs
     slice-aggregate-put-text
     put-text-requires
@@ -104,5 +89,5 @@ text-spec =
     array-share-prefix-bytes
     slice-aggregate-put-bytes
     put-bytes-requires
-    same-length
+    (λ c. search needs)
     returns-3)

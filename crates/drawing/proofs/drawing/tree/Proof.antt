@@ -20,17 +20,8 @@ allowed c = checked-done _ (c .before .before .checked .ensures) (c .enum-told .
 gathered : (c : tie.After-leaf-members) → let r = c .leaf-members .result in Front (membersOf (table (c .before))) (r .size) (r .clusters)
 gathered c = front-of-holds (c .leaf-members .ensures)
 
-checked-requires : tie.Need-checked-requires
-checked-requires c κs = search needs
-
-enum-known-answer : tie.Need-enum-known-answer
-enum-known-answer c = search needs
-
 returns : tie.Need-returns
 returns c = tree-refused _ _ (checked-refused _ (c .before .before .before .checked .ensures) (c .before .answer .given .1))
-
-enum-told : tie.Need-enum-told
-enum-told c = search needs
 
 leaf-members-requires : tie.Need-leaf-members-requires
 leaf-members-requires c κs = let d = drawable _ (allowed c) in (d .fit, d .row)
@@ -49,9 +40,6 @@ put-clusters-requires c κs =
     let at-room = c .before .before .before in
     tree-requires (drawable _ (allowed (at-room .before .before))) (gathered (at-room .before)) (at-room .if1 .left)
 
-same-length : tie.Need-same-length
-same-length c = search needs
-
 returns-3 : tie.Need-returns-3
 returns-3 c =
     let copied = c .before .before in
@@ -62,14 +50,14 @@ pub tree-spec : {M : Type 1} → statement M
 tree-spec =
     tie.close
     (tie.spec
-    checked-requires
-    enum-known-answer
+    (λ c κs. search needs)
+    (λ c. search needs)
     returns
-    enum-told
+    (λ c. search needs)
     leaf-members-requires
     returns-2
     array-share-prefix-xs
     slice-aggregate-put-clusters
     put-clusters-requires
-    same-length
+    (λ c. search needs)
     returns-3)

@@ -7,16 +7,10 @@ use Rattle.drawing.proofs.Laws.Marked.{mark-past}
 use Rattle.drawing.proofs.marks.is_marked.Statement.{statement}
 use Rattle.drawing.proofs.marks.is_marked.Tie as tie
 
-shr-result : tie.Need-shr-result
-shr-result c = search needs
-
 returns : tie.Need-returns
 returns c =
     let a = c .before .args in
     sym (mark-low (a .low) (a .high) (a .i) (c .if1 .taken))
-
-shr-result-2 : tie.Need-shr-result-2
-shr-result-2 c = search needs
 
 returns-2 : tie.Need-returns-2
 returns-2 c =
@@ -24,4 +18,4 @@ returns-2 c =
     sym (mark-past (a .low) (a .high) (a .i) (fits-lt-pow (c .before .fits .low)) (c .if1 .left))
 
 pub is-marked-spec : {M : Type 1} → statement M
-is-marked-spec = tie.close (tie.spec shr-result returns shr-result-2 returns-2)
+is-marked-spec = tie.close (tie.spec (λ c. search needs) returns (λ c. search needs) returns-2)

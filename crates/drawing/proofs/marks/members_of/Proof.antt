@@ -23,21 +23,12 @@ abbrev μ-loop : tie.MeasureT-loop
 loop-holds : tie.Need-loop-holds Inv-loop μ-loop
 loop-holds c = (omega arith, holds-none)
 
-is-marked-requires : tie.Need-is-marked-requires Inv-loop μ-loop
-is-marked-requires c κs = omega arith
-
 -- there is room for one more
 room : (c : tie.Then1 Inv-loop μ-loop) → c .before .before .before .loop .members .size < rowCap
 room c =
     let at-loop = c .before .before .before in
     let a = at-loop .before .args in
     omega (arith, at-loop .loop .inv .1 .told, length-membersTo-le (now (a .clusters)) (a .low + wordValues * a .high) (at-loop .loop .i))
-
-mul-members : tie.Need-mul-members Inv-loop μ-loop
-mul-members c = omega arith
-
-element-copy-out-members : tie.Need-element-copy-out-members Inv-loop μ-loop
-element-copy-out-members c = omega arith
 
 mul-members-2 : tie.Need-mul-members-2 Inv-loop μ-loop
 mul-members-2 c = omega (arith, room (c .before))
@@ -47,12 +38,6 @@ element-write-members c = room (c .before)
 
 add-members : tie.Need-add-members Inv-loop μ-loop
 add-members c = omega (arith, room (c .before))
-
-add-i : tie.Need-add-i Inv-loop μ-loop
-add-i c = omega arith
-
-loop-less : tie.Need-loop-less Inv-loop μ-loop
-loop-less c = omega arith
 
 loop-again : tie.Need-loop-again Inv-loop μ-loop
 loop-again c =
@@ -84,13 +69,13 @@ members-of-spec =
     Inv-loop
     μ-loop
     loop-holds
-    is-marked-requires
-    mul-members
-    element-copy-out-members
+    (λ c κs. omega arith)
+    (λ c. omega arith)
+    (λ c. omega arith)
     mul-members-2
     element-write-members
     add-members
-    add-i
-    loop-less
+    (λ c. omega arith)
+    (λ c. omega arith)
     loop-again
     returns)

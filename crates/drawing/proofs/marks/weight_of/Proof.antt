@@ -22,15 +22,6 @@ abbrev μ-loop : tie.MeasureT-loop
 loop-holds : tie.Need-loop-holds Inv-loop μ-loop
 loop-holds c = (omega arith, weighed-none)
 
-is-marked-requires : tie.Need-is-marked-requires Inv-loop μ-loop
-is-marked-requires c κs = omega arith
-
-mul-sum : tie.Need-mul-sum Inv-loop μ-loop
-mul-sum c = omega arith
-
-element-copy-out-sum : tie.Need-element-copy-out-sum Inv-loop μ-loop
-element-copy-out-sum c = omega arith
-
 cast-sum : tie.Need-cast-sum Inv-loop μ-loop
 cast-sum c =
     let at-loop = c .before .before .before .before in
@@ -41,12 +32,6 @@ add-sum c =
     let marked = c .before in
     let turn = marked .before .before in
     weighed-fits (turn .before .loop .inv .1) (omega arith) (sym (marked .before .is-marked .ensures) ∙ marked .if1 .taken) (c .sum .given)
-
-add-i : tie.Need-add-i Inv-loop μ-loop
-add-i c = omega arith
-
-loop-less : tie.Need-loop-less Inv-loop μ-loop
-loop-less c = omega arith
 
 loop-again : tie.Need-loop-again Inv-loop μ-loop
 loop-again c =
@@ -74,12 +59,12 @@ weight-of-spec =
     Inv-loop
     μ-loop
     loop-holds
-    is-marked-requires
-    mul-sum
-    element-copy-out-sum
+    (λ c κs. omega arith)
+    (λ c. omega arith)
+    (λ c. omega arith)
     cast-sum
     add-sum
-    add-i
-    loop-less
+    (λ c. omega arith)
+    (λ c. omega arith)
     loop-again
     returns)

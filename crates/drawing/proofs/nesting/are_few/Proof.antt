@@ -24,18 +24,6 @@ abbrev μ-loop : tie.MeasureT-loop
 loop-holds : tie.Need-loop-holds Inv-loop μ-loop
 loop-holds c = every-none
 
-mul-m : tie.Need-mul-m Inv-loop μ-loop
-mul-m c = omega arith
-
-shared-slice-read-m : tie.Need-shared-slice-read-m Inv-loop μ-loop
-shared-slice-read-m c = omega arith
-
-is-single-requires : tie.Need-is-single-requires Inv-loop μ-loop
-is-single-requires c κs = search needs
-
-child-count-requires : tie.Need-child-count-requires Inv-loop μ-loop
-child-count-requires c κs = search needs
-
 returns : tie.Need-returns Inv-loop μ-loop
 returns c =
     let first = c .before .before in
@@ -43,12 +31,6 @@ returns c =
     let no = sym (first .before .is-single .ensures) ∙ not-true _ (first .if1 .taken) in
     let many = lt-leb _ _ (rw (c .before .child-count .ensures) at (c .if2 .taken)) in
     sym (every-stop (turn .before .loop .inv) (turn .loop-test .taken) (ap₂ _||_ no many))
-
-add-i : tie.Need-add-i Inv-loop μ-loop
-add-i c = omega arith
-
-loop-less : tie.Need-loop-less Inv-loop μ-loop
-loop-less c = omega arith
 
 loop-again : tie.Need-loop-again Inv-loop μ-loop
 loop-again c =
@@ -70,12 +52,12 @@ are-few-spec =
     Inv-loop
     μ-loop
     loop-holds
-    mul-m
-    shared-slice-read-m
-    is-single-requires
-    child-count-requires
+    (λ c. omega arith)
+    (λ c. omega arith)
+    (λ c κs. search needs)
+    (λ c κs. search needs)
     returns
-    add-i
-    loop-less
+    (λ c. omega arith)
+    (λ c. omega arith)
     loop-again
     returns-2)

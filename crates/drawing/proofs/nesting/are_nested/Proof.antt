@@ -26,23 +26,11 @@ first-fails a b e = rw e refl
 loop-holds : tie.Need-loop-holds Inv-loop μ-loop
 loop-holds c = every-none
 
-mul-a : tie.Need-mul-a Inv-loop μ-loop
-mul-a c = omega arith
-
-shared-slice-read-a : tie.Need-shared-slice-read-a Inv-loop μ-loop
-shared-slice-read-a c = omega arith
-
-is-inside-requires : tie.Need-is-inside-requires Inv-loop μ-loop
-is-inside-requires c κs = search needs
-
 returns : tie.Need-returns Inv-loop μ-loop
 returns c =
     let turn = c .before .before .before in
     let outside = sym (c .before .is-inside .ensures) ∙ not-true _ (c .if1 .taken) in
     sym (every-stop (turn .before .loop .inv) (turn .loop-test .taken) (first-fails _ _ outside))
-
-nests-requires : tie.Need-nests-requires Inv-loop μ-loop
-nests-requires c κs = search needs
 
 returns-2 : tie.Need-returns-2 Inv-loop μ-loop
 returns-2 c =
@@ -51,12 +39,6 @@ returns-2 c =
     let within = sym (first .before .is-inside .ensures) ∙ not-false _ (first .if1 .left) in
     let crosses = sym (c .before .nests .ensures) ∙ not-true _ (c .if2 .taken) in
     sym (every-stop (turn .before .loop .inv) (turn .loop-test .taken) (ap₂ _&&_ within crosses))
-
-add-i : tie.Need-add-i Inv-loop μ-loop
-add-i c = omega arith
-
-loop-less : tie.Need-loop-less Inv-loop μ-loop
-loop-less c = omega arith
 
 loop-again : tie.Need-loop-again Inv-loop μ-loop
 loop-again c =
@@ -76,13 +58,13 @@ are-nested-spec =
     Inv-loop
     μ-loop
     loop-holds
-    mul-a
-    shared-slice-read-a
-    is-inside-requires
+    (λ c. omega arith)
+    (λ c. omega arith)
+    (λ c κs. search needs)
     returns
-    nests-requires
+    (λ c κs. search needs)
     returns-2
-    add-i
-    loop-less
+    (λ c. omega arith)
+    (λ c. omega arith)
     loop-again
     returns-3)

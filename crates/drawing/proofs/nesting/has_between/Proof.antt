@@ -21,18 +21,6 @@ abbrev μ-loop : tie.MeasureT-loop
 loop-holds : tie.Need-loop-holds Inv-loop μ-loop
 loop-holds c = some-none
 
-mul-l : tie.Need-mul-l Inv-loop μ-loop
-mul-l c = omega arith
-
-shared-slice-read-l : tie.Need-shared-slice-read-l Inv-loop μ-loop
-shared-slice-read-l c = omega arith
-
-is-strict-requires : tie.Need-is-strict-requires Inv-loop μ-loop
-is-strict-requires c κs = search needs
-
-is-strict-requires-2 : tie.Need-is-strict-requires-2 Inv-loop μ-loop
-is-strict-requires-2 c κs = search needs
-
 returns : tie.Need-returns Inv-loop μ-loop
 returns c =
     let first = c .before .before in
@@ -40,12 +28,6 @@ returns c =
     let below = sym (first .before .is-strict .ensures) ∙ first .if1 .taken in
     let above = sym (c .before .is-strict2 .ensures) ∙ c .if2 .taken in
     sym (some-stop (turn .before .loop .inv) (turn .loop-test .taken) (ap₂ _&&_ below above))
-
-add-i : tie.Need-add-i Inv-loop μ-loop
-add-i c = omega arith
-
-loop-less : tie.Need-loop-less Inv-loop μ-loop
-loop-less c = omega arith
 
 loop-again : tie.Need-loop-again Inv-loop μ-loop
 loop-again c =
@@ -64,12 +46,12 @@ has-between-spec =
     Inv-loop
     μ-loop
     loop-holds
-    mul-l
-    shared-slice-read-l
-    is-strict-requires
-    is-strict-requires-2
+    (λ c. omega arith)
+    (λ c. omega arith)
+    (λ c κs. search needs)
+    (λ c κs. search needs)
     returns
-    add-i
-    loop-less
+    (λ c. omega arith)
+    (λ c. omega arith)
     loop-again
     returns-2)

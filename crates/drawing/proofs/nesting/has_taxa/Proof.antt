@@ -23,18 +23,6 @@ abbrev μ-loop : tie.MeasureT-loop
 loop-holds : tie.Need-loop-holds Inv-loop μ-loop
 loop-holds c = (omega arith, refl)
 
-cast-u : tie.Need-cast-u Inv-loop μ-loop
-cast-u c = omega arith
-
-shl-u : tie.Need-shl-u Inv-loop μ-loop
-shl-u c = omega arith
-
-is-inside-requires : tie.Need-is-inside-requires Inv-loop μ-loop
-is-inside-requires c κs = search needs
-
-has-requires : tie.Need-has-requires Inv-loop μ-loop
-has-requires c κs = search needs
-
 returns : tie.Need-returns Inv-loop μ-loop
 returns c =
     let first = c .before .before in
@@ -45,12 +33,6 @@ returns c =
     let i = turn .before .loop .taxon in
     let below = turn .loop-test .taken in
     sym (taxa-stop (hasTaxon (a .c) (now (a .xs))) (narrow .taxa) i (taxon-shift i below) below (ap₂ (λ (s t : Bool). not s || t) yes no))
-
-add-taxon : tie.Need-add-taxon Inv-loop μ-loop
-add-taxon c = omega arith
-
-loop-less : tie.Need-loop-less Inv-loop μ-loop
-loop-less c = omega arith
 
 loop-again : tie.Need-loop-again Inv-loop μ-loop
 loop-again c =
@@ -78,12 +60,12 @@ has-taxa-spec =
     Inv-loop
     μ-loop
     loop-holds
-    cast-u
-    shl-u
-    is-inside-requires
-    has-requires
+    (λ c. omega arith)
+    (λ c. omega arith)
+    (λ c κs. search needs)
+    (λ c κs. search needs)
     returns
-    add-taxon
-    loop-less
+    (λ c. omega arith)
+    (λ c. omega arith)
     loop-again
     returns-2)

@@ -4,22 +4,13 @@ use borrow.Author.Needs.{needs}
 use Rattle.drawing.proofs.nesting.is_nested.Statement.{statement}
 use Rattle.drawing.proofs.nesting.is_nested.Tie as tie
 
-is-inside-requires : tie.Need-is-inside-requires
-is-inside-requires c κs = search needs
-
 returns : tie.Need-returns
 returns c = rw (sym (c .before .is-inside .ensures) ∙ c .if1 .taken)
-
-is-inside-requires-2 : tie.Need-is-inside-requires-2
-is-inside-requires-2 c κs = search needs
 
 returns-2 : tie.Need-returns-2
 returns-2 c =
     let first = c .before .before in
     rw (sym (first .before .is-inside .ensures) ∙ first .if1 .left, sym (c .before .is-inside2 .ensures) ∙ c .if2 .taken)
-
-is-apart-requires : tie.Need-is-apart-requires
-is-apart-requires c κs = search needs
 
 returns-3 : tie.Need-returns-3
 returns-3 c =
@@ -32,9 +23,9 @@ pub is-nested-spec : {M : Type 1} → statement M
 is-nested-spec =
     tie.close
     (tie.spec
-    is-inside-requires
+    (λ c κs. search needs)
     returns
-    is-inside-requires-2
+    (λ c κs. search needs)
     returns-2
-    is-apart-requires
+    (λ c κs. search needs)
     returns-3)

@@ -8,11 +8,8 @@ use Rattle.drawing.proofs.nesting.is_strict.Tie as tie
 returns : tie.Need-returns
 returns c = rw (eq-eqb _ _ (c .if1 .taken), and-false)
 
-is-inside-requires : tie.Need-is-inside-requires
-is-inside-requires c κs = search needs
-
 returns-2 : tie.Need-returns-2
 returns-2 c = rw (ne-eqb _ _ (c .before .if1 .left), and-true) (c .is-inside .ensures)
 
 pub is-strict-spec : {M : Type 1} → statement M
-is-strict-spec = tie.close (tie.spec returns is-inside-requires returns-2)
+is-strict-spec = tie.close (tie.spec returns (λ c κs. search needs) returns-2)

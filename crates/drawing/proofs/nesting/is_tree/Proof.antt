@@ -39,18 +39,12 @@ returns c =
     let no = sym (c .before .are-nested .ensures) ∙ not-true _ (c .if1 .taken) in
     sym (isTree-nested (narrow .taxa) (a .degree) (a .c) (now (a .xs)) no)
 
-has-requires : tie.Need-has-requires
-has-requires c κs = search needs
-
 returns-2 : tie.Need-returns-2
 returns-2 c =
     let first = c .before .before in
     let a = first-start first .args in
     let no = sym (c .before .has .ensures) ∙ not-true _ (c .if2 .taken) in
     sym (isTree-top (narrow .taxa) (a .degree) (a .c) (now (a .xs)) (first-passed first) no)
-
-has-taxa-requires : tie.Need-has-taxa-requires
-has-taxa-requires c κs = search needs
 
 returns-3 : tie.Need-returns-3
 returns-3 c =
@@ -59,15 +53,6 @@ returns-3 c =
     let a = first-start first .args in
     let no = sym (c .before .has-taxa .ensures) ∙ not-true _ (c .if3 .taken) in
     sym (isTree-taxa (narrow .taxa) (a .degree) (a .c) (now (a .xs)) (first-passed first) (second-passed second) no)
-
-sub-most : tie.Need-sub-most
-sub-most c = search needs
-
-cast-most : tie.Need-cast-most
-cast-most c = search needs
-
-are-few-requires : tie.Need-are-few-requires
-are-few-requires c κs = search needs
 
 returns-4 : tie.Need-returns-4
 returns-4 c =
@@ -84,11 +69,11 @@ is-tree-spec =
     (tie.spec
     are-nested-requires
     returns
-    has-requires
+    (λ c κs. search needs)
     returns-2
-    has-taxa-requires
+    (λ c κs. search needs)
     returns-3
-    sub-most
-    cast-most
-    are-few-requires
+    (λ c. search needs)
+    (λ c. search needs)
+    (λ c κs. search needs)
     returns-4)

@@ -20,25 +20,10 @@ abbrev μ-loop : tie.MeasureT-loop
 loop-holds : tie.Need-loop-holds Inv-loop μ-loop
 loop-holds c = every-none
 
-mul-is-nested : tie.Need-mul-is-nested Inv-loop μ-loop
-mul-is-nested c = omega arith
-
-shared-slice-read-is-nested : tie.Need-shared-slice-read-is-nested Inv-loop μ-loop
-shared-slice-read-is-nested c = omega arith
-
-is-nested-requires : tie.Need-is-nested-requires Inv-loop μ-loop
-is-nested-requires c κs = search needs
-
 returns : tie.Need-returns Inv-loop μ-loop
 returns c =
     let turn = c .before .before .before in
     sym (every-stop (turn .before .loop .inv) (turn .loop-test .taken) (sym (c .before .is-nested .ensures) ∙ not-true _ (c .if1 .taken)))
-
-add-i : tie.Need-add-i Inv-loop μ-loop
-add-i c = omega arith
-
-loop-less : tie.Need-loop-less Inv-loop μ-loop
-loop-less c = omega arith
 
 loop-again : tie.Need-loop-again Inv-loop μ-loop
 loop-again c =
@@ -55,11 +40,11 @@ nests-spec =
     Inv-loop
     μ-loop
     loop-holds
-    mul-is-nested
-    shared-slice-read-is-nested
-    is-nested-requires
+    (λ c. omega arith)
+    (λ c. omega arith)
+    (λ c κs. search needs)
     returns
-    add-i
-    loop-less
+    (λ c. omega arith)
+    (λ c. omega arith)
     loop-again
     returns-2)

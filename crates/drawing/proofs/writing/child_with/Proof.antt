@@ -16,26 +16,11 @@ Inv-loop xs part taxon bit best₀ i₀ best i = (i ≤ length xs) × (childFrom
 abbrev μ-loop : tie.MeasureT-loop
 μ-loop xs part taxon bit best₀ i₀ best i = length xs - i
 
-shl-bit : tie.Need-shl-bit Inv-loop μ-loop
-shl-bit c = omega arith
-
 loop-holds : tie.Need-loop-holds Inv-loop μ-loop
 loop-holds c = let a = c .before .args in (omega arith, child-from (now (a .xs)) (a .part) (a .taxon))
 
-mul-larger-part : tie.Need-mul-larger-part Inv-loop μ-loop
-mul-larger-part c = omega arith
-
-shared-slice-read-larger-part : tie.Need-shared-slice-read-larger-part Inv-loop μ-loop
-shared-slice-read-larger-part c = omega arith
-
 larger-part-requires : tie.Need-larger-part-requires Inv-loop μ-loop
 larger-part-requires c κs = tt
-
-add-i : tie.Need-add-i Inv-loop μ-loop
-add-i c = omega arith
-
-loop-less : tie.Need-loop-less Inv-loop μ-loop
-loop-less c = omega arith
 
 loop-again : tie.Need-loop-again Inv-loop μ-loop
 loop-again c =
@@ -52,12 +37,12 @@ child-with-spec =
     (tie.spec
     Inv-loop
     μ-loop
-    shl-bit
+    (λ c. omega arith)
     loop-holds
-    mul-larger-part
-    shared-slice-read-larger-part
+    (λ c. omega arith)
+    (λ c. omega arith)
     larger-part-requires
-    add-i
-    loop-less
+    (λ c. omega arith)
+    (λ c. omega arith)
     loop-again
     returns)

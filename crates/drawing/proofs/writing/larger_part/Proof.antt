@@ -9,16 +9,10 @@ use Rattle.drawing.proofs.writing.larger_part.Tie as tie
 returns : tie.Need-returns
 returns c = let a = c .before .args in larger-less (a .best) (a .k) (a .part) (a .bit) (c .if1 .taken)
 
-is-strict-requires : tie.Need-is-strict-requires
-is-strict-requires c κs = search needs
-
 returns-2 : tie.Need-returns-2
 returns-2 c =
     let a = c .before .before .before .args in
     larger-outside (a .best) (a .k) (a .part) (a .bit) (sym (c .before .is-strict .ensures) ∙ not-true _ (c .if2 .taken))
-
-is-inside-requires : tie.Need-is-inside-requires
-is-inside-requires c κs = search needs
 
 returns-3 : tie.Need-returns-3
 returns-3 c =
@@ -38,4 +32,4 @@ returns-4 c =
     (sym (c .before .is-inside .ensures) ∙ c .if3 .left)
 
 pub larger-part-spec : {M : Type 1} → statement M
-larger-part-spec = tie.close (tie.spec returns is-strict-requires returns-2 is-inside-requires returns-3 returns-4)
+larger-part-spec = tie.close (tie.spec returns (λ c κs. search needs) returns-2 (λ c κs. search needs) returns-3 returns-4)

@@ -10,11 +10,8 @@ returns c = comma-none _ _ _ _ (c .if1 .taken)
 element-write-room : tie.Need-element-write-room
 element-write-room c = comma-one-fits _ _ _ _ (c .if1 .left) (c .before .pre)
 
-add-result : tie.Need-add-result
-add-result c = search needs
-
 returns-2 : tie.Need-returns-2
 returns-2 c = comma-one _ _ _ _ (c .if1 .left)
 
 pub put-comma-spec : {M : Type 1} → statement M
-put-comma-spec = tie.close (tie.spec returns element-write-room add-result returns-2)
+put-comma-spec = tie.close (tie.spec returns element-write-room (λ c. search needs) returns-2)

@@ -16,24 +16,12 @@ use Rattle.kept.proofs.fitness.has_mark.Tie as tie
 low-fits : (s : tie.Start) → Fits w64 (s .args .row .low)
 low-fits s = search needs
 
-shl-is-inside : tie.Need-shl-is-inside
-shl-is-inside c = search needs
-
-is-inside-requires : tie.Need-is-inside-requires
-is-inside-requires c κs = search needs
-
 returns : tie.Need-returns
 returns c =
     let a = c .before .before .args in
     c .is-inside .ensures
     ∙ ap (λ (m : ℕ). inside m (a .row .low)) (shifted (a .i) (c .before .if1 .taken))
     ∙ sym (mark-low (a .row .low) (a .row .high) (a .i) (c .before .if1 .taken) ∙ mark-is (a .row .low) (a .i))
-
-shl-is-inside-2 : tie.Need-shl-is-inside-2
-shl-is-inside-2 c = search needs
-
-is-inside-requires-2 : tie.Need-is-inside-requires-2
-is-inside-requires-2 c κs = search needs
 
 returns-2 : tie.Need-returns-2
 returns-2 c =
@@ -49,9 +37,9 @@ pub has-mark-spec : {M : Type 1} → statement M
 has-mark-spec =
     tie.close
     (tie.spec
-    shl-is-inside
-    is-inside-requires
+    (λ c. search needs)
+    (λ c κs. search needs)
     returns
-    shl-is-inside-2
-    is-inside-requires-2
+    (λ c. search needs)
+    (λ c κs. search needs)
     returns-2)

@@ -15,9 +15,6 @@ returns-2 c =
     let length = c .before .before in
     sym (blank-is (resultIn (length .before .before .args .row)) ∙ rw (eq-eqb _ _ (length .if1 .left), ne-eqb _ _ (c .if2 .taken)))
 
-is-nothing-requires : tie.Need-is-nothing-requires
-is-nothing-requires c κs = search needs
-
 returns-3 : tie.Need-returns-3
 returns-3 c =
     let count = c .before in
@@ -26,4 +23,4 @@ returns-3 c =
     c .is-nothing .ensures ∙ sym (blank-is v ∙ rw (eq-eqb _ _ (length .if1 .left), eq-eqb _ _ (count .if2 .left)))
 
 pub is-blank-spec : {M : Type 1} → statement M
-is-blank-spec = tie.close (tie.spec returns returns-2 is-nothing-requires returns-3)
+is-blank-spec = tie.close (tie.spec returns returns-2 (λ c κs. search needs) returns-3)

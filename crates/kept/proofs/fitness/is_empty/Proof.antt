@@ -38,9 +38,6 @@ returns-3 c =
     let cluster = weight .before .before .before in
     sym (empty-is (entryIn (start weight .args .row)) ∙ rw (eq-eqb _ _ (cluster .if1 .left), weightless weight, ne-eqb _ _ (c .if3 .taken)))
 
-is-blank-requires : tie.Need-is-blank-requires
-is-blank-requires c κs = search needs
-
 returns-4 : tie.Need-returns-4
 returns-4 c =
     let state = c .before in
@@ -51,4 +48,4 @@ returns-4 c =
     ∙ rw (eq-eqb _ _ (cluster .if1 .left), weightless weight, eq-eqb _ _ (state .if3 .left)))
 
 pub is-empty-spec : {M : Type 1} → statement M
-is-empty-spec = tie.close (tie.spec returns returns-2 returns-3 is-blank-requires returns-4)
+is-empty-spec = tie.close (tie.spec returns returns-2 returns-3 (λ c κs. search needs) returns-4)

@@ -44,9 +44,6 @@ returns-4 c =
     let t = c .before .before .before .before .args .t1 in
     sym (unfit t (λ (f : FitTable t). omega (arith, f .capped, c .if4 .taken)))
 
-is-rising-requires : tie.Need-is-rising-requires
-is-rising-requires c κs = search needs
-
 returns-5 : tie.Need-returns-5
 returns-5 c =
     let t = start (tested (c .before)) .args .t1 in
@@ -72,4 +69,4 @@ returns-6 c =
 pub is-fit-spec : {M : Type 1} → statement M
 is-fit-spec =
     tie.close
-    (tie.spec returns returns-2 returns-3 returns-4 is-rising-requires returns-5 has-right-rows-requires returns-6)
+    (tie.spec returns returns-2 returns-3 returns-4 (λ c κs. search needs) returns-5 has-right-rows-requires returns-6)

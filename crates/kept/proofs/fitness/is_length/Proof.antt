@@ -8,9 +8,6 @@ use Rattle.kept.proofs.fitness.is_length.Tie as tie
 returns : tie.Need-returns
 returns c = rw (lt-leb _ _ (c .if1 .taken))
 
-is-single-requires : tie.Need-is-single-requires
-is-single-requires c κs = search needs
-
 returns-2 : tie.Need-returns-2
 returns-2 c =
     let single = c .before .before in
@@ -22,4 +19,4 @@ returns-3 c =
     rw (le-leb _ _ (single .before .if1 .left), sym (single .is-single .ensures) ∙ c .if2 .left)
 
 pub is-length-spec : {M : Type 1} → statement M
-is-length-spec = tie.close (tie.spec returns is-single-requires returns-2 returns-3)
+is-length-spec = tie.close (tie.spec returns (λ c κs. search needs) returns-2 returns-3)

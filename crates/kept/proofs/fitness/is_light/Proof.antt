@@ -12,15 +12,6 @@ use Rattle.kept.proofs.Laws.Fitness.{most-is, minus-fits, light-low, li
 use Rattle.kept.proofs.fitness.is_light.Statement.{statement}
 use Rattle.kept.proofs.fitness.is_light.Tie as tie
 
-mul-most : tie.Need-mul-most
-mul-most c = search needs
-
-sub-most : tie.Need-sub-most
-sub-most c = search needs
-
-cast-most : tie.Need-cast-most
-cast-most c = search needs
-
 mul-most-2 : tie.Need-mul-most-2
 mul-most-2 c = rw (most-is (c .args .taxa) (c .pre .0) (c .pre .1)) (record { sfits = omega arith })
 
@@ -50,4 +41,4 @@ returns-2 c =
     rw (toZ-ofZ (s .fits .best), back s) (light-high (s .args .best) (weightMax * (2 * s .args .taxa - 1)) above)
 
 pub is-light-spec : {M : Type 1} → statement M
-is-light-spec = tie.close (tie.spec mul-most sub-most cast-most mul-most-2 sub-if1 returns returns-2)
+is-light-spec = tie.close (tie.spec (λ c. search needs) (λ c. search needs) (λ c. search needs) mul-most-2 sub-if1 returns returns-2)

@@ -9,9 +9,6 @@ use Rattle.kept.proofs.Laws.Fitness.{passed, failed, scored-yes, scored
 use Rattle.kept.proofs.fitness.is_ranged.Statement.{statement}
 use Rattle.kept.proofs.fitness.is_ranged.Tie as tie
 
-is-length-requires : tie.Need-is-length-requires
-is-length-requires c κs = search needs
-
 returns : tie.Need-returns
 returns c =
     let length = c .before in
@@ -25,9 +22,6 @@ returns-2 c =
     let r = length .before .args .row in
     sym (ranged-is narrow (listedIn r) (resultIn r)
     ∙ rw (passed (length .is-length .ensures) (past-length .if1 .left), lt-leb _ _ (c .if2 .taken)))
-
-is-mark-requires : tie.Need-is-mark-requires
-is-mark-requires c κs = search needs
 
 returns-3 : tie.Need-returns-3
 returns-3 c =
@@ -59,9 +53,6 @@ returns-4 c =
       scored-yes (r .state) (c .if4 .taken),
     ))
 
-is-blank-requires : tie.Need-is-blank-requires
-is-blank-requires c κs = search needs
-
 returns-5 : tie.Need-returns-5
 returns-5 c =
     let past-mark = c .before .before .before in
@@ -80,4 +71,4 @@ returns-5 c =
     ))
 
 pub is-ranged-spec : {M : Type 1} → statement M
-is-ranged-spec = tie.close (tie.spec is-length-requires returns returns-2 is-mark-requires returns-3 returns-4 is-blank-requires returns-5)
+is-ranged-spec = tie.close (tie.spec (λ c κs. search needs) returns returns-2 (λ c κs. search needs) returns-3 returns-4 (λ c κs. search needs) returns-5)

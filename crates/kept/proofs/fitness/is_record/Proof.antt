@@ -15,15 +15,6 @@ weight-fits s = search needs
 returns : tie.Need-returns
 returns c = rw (le-ltb _ _ (c .if1 .taken))
 
-cast-t5 : tie.Need-cast-t5
-cast-t5 c = search needs
-
-broken-rule-requires : tie.Need-broken-rule-requires
-broken-rule-requires c κs = search needs
-
-is-kept-requires : tie.Need-is-kept-requires
-is-kept-requires c κs = search needs
-
 returns-2 : tie.Need-returns-2
 returns-2 c =
     let width = c .before .before .before .before in
@@ -32,4 +23,4 @@ returns-2 c =
     (c .is-kept .ensures ∙ ap isKept (rw (toZ-ofZ (weight-fits s)) at (c .before .broken-rule .ensures)))
 
 pub is-record-spec : {M : Type 1} → statement M
-is-record-spec = tie.close (tie.spec returns cast-t5 broken-rule-requires is-kept-requires returns-2)
+is-record-spec = tie.close (tie.spec returns (λ c. search needs) (λ c κs. search needs) (λ c κs. search needs) returns-2)

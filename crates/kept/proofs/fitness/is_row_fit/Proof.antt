@@ -18,16 +18,10 @@ fit : (s : tie.Start) → let cs = clustersDown (now (s .args .clusters)) (s .ar
     fitEntry narrow cs e ≡ (keepsRules narrow (e .row) && (isRanged narrow (e .row) (e .val) && isTold cs (e .row) (e .val)))
 fit s = fitEntry-is narrow (clustersDown (now (s .args .clusters)) (s .args .n)) (entryIn (s .args .row))
 
-is-record-requires : tie.Need-is-record-requires
-is-record-requires c κs = search needs
-
 returns : tie.Need-returns
 returns c =
     let s = c .before .before .before in
     sym (fit s ∙ rw (failed (c .before .is-record .ensures) (c .if1 .taken)))
-
-is-ranged-requires : tie.Need-is-ranged-requires
-is-ranged-requires c κs = search needs
 
 returns-2 : tie.Need-returns-2
 returns-2 c =
@@ -52,4 +46,4 @@ returns-3 c =
     ∙ rw (passed (listed .before .is-record .ensures) (listed .if1 .left), passed (ranged .before .is-ranged .ensures) (ranged .if2 .left)))
 
 pub is-row-fit-spec : {M : Type 1} → statement M
-is-row-fit-spec = tie.close (tie.spec is-record-requires returns is-ranged-requires returns-2 is-told-requires returns-3)
+is-row-fit-spec = tie.close (tie.spec (λ c κs. search needs) returns (λ c κs. search needs) returns-2 is-told-requires returns-3)

@@ -4,9 +4,6 @@ use borrow.Author.Tests.{le-leb, lt-leb}
 use Rattle.kept.proofs.fitness.is_row_right.Statement.{statement}
 use Rattle.kept.proofs.fitness.is_row_right.Tie as tie
 
-is-empty-requires : tie.Need-is-empty-requires
-is-empty-requires c κs = search needs
-
 returns : tie.Need-returns
 returns c = rw (le-leb _ _ (c .before .if1 .taken)) (c .is-empty .ensures)
 
@@ -17,4 +14,4 @@ returns-2 : tie.Need-returns-2
 returns-2 c = rw (lt-leb _ _ (c .before .if1 .left)) (c .is-row-fit .ensures)
 
 pub is-row-right-spec : {M : Type 1} → statement M
-is-row-right-spec = tie.close (tie.spec is-empty-requires returns is-row-fit-requires returns-2)
+is-row-right-spec = tie.close (tie.spec (λ c κs. search needs) returns is-row-fit-requires returns-2)

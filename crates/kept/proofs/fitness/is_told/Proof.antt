@@ -52,23 +52,14 @@ returns c =
     c .is-nothing .ensures
     ∙ sym (told-none (clustersDown (now (a .clusters)) (a .n)) (listedIn (a .row)) (resultIn (a .row)) (c .before .if1 .taken))
 
-has-mark-requires : tie.Need-has-mark-requires
-has-mark-requires c κs = search needs
-
 returns-2 : tie.Need-returns-2
 returns-2 c = sym (live (c .before .before) ∙ rw (failed (c .before .has-mark .ensures) (c .if2 .taken)))
-
-is-word-fit-requires : tie.Need-is-word-fit-requires
-is-word-fit-requires c κs = search needs
 
 returns-3 : tie.Need-returns-3
 returns-3 c =
     let own = c .before .before in
     sym (live (own .before .before)
     ∙ rw (passed (own .before .has-mark .ensures) (own .if2 .left), failed (c .before .is-word-fit .ensures) (c .if3 .taken)))
-
-is-word-fit-requires-2 : tie.Need-is-word-fit-requires-2
-is-word-fit-requires-2 c κs = search needs
 
 returns-4 : tie.Need-returns-4
 returns-4 c =
@@ -80,9 +71,6 @@ returns-4 c =
       passed (low .before .is-word-fit .ensures) (low .if3 .left),
       failed (c .before .is-word-fit2 .ensures) (c .if4 .taken),
     ))
-
-size-requires : tie.Need-size-requires
-size-requires c κs = search needs
 
 is-light-requires : tie.Need-is-light-requires
 is-light-requires c κs =
@@ -115,12 +103,12 @@ is-told-spec =
     (tie.spec
     is-nothing-requires
     returns
-    has-mark-requires
+    (λ c κs. search needs)
     returns-2
-    is-word-fit-requires
+    (λ c κs. search needs)
     returns-3
-    is-word-fit-requires-2
+    (λ c κs. search needs)
     returns-4
-    size-requires
+    (λ c κs. search needs)
     is-light-requires
     returns-5)

@@ -26,9 +26,6 @@ abbrev μ-loop : tie.MeasureT-loop
 loop-holds : tie.Need-loop-holds Inv-loop μ-loop
 loop-holds c = (omega arith, refl)
 
-highest-requires : tie.Need-highest-requires Inv-loop μ-loop
-highest-requires c κs = search needs
-
 -- ---- the highest set bit
 bit-set : (c : tie.After-highest Inv-loop μ-loop) → Marked (c .before .before .loop .rest) (c .highest .result)
 bit-set c = rw (c .highest .ensures) (mark-highest (c .before .before .loop .rest) (omega arith))
@@ -53,15 +50,6 @@ returns c =
     let p = isMarkFit (now (a .clusters)) (a .n) (a .cluster) (a .base) in
     let past : p (at-bit .highest .result) ≡ false = rw (le-ltb _ _ (c .if1 .taken)) in
     sym (at-loop .loop .inv .1 ∙ everyBit-fails 64 p (at-loop .loop .rest) (at-bit .highest .result) (bit-lt at-bit) (bit-set at-bit) past)
-
-mul-is-inside : tie.Need-mul-is-inside Inv-loop μ-loop
-mul-is-inside c = omega arith
-
-shared-slice-read-is-inside : tie.Need-shared-slice-read-is-inside Inv-loop μ-loop
-shared-slice-read-is-inside c = omega arith
-
-is-inside-requires : tie.Need-is-inside-requires Inv-loop μ-loop
-is-inside-requires c κs = search needs
 
 returns-2 : tie.Need-returns-2 Inv-loop μ-loop
 returns-2 c =
@@ -112,13 +100,13 @@ is-word-fit-spec =
     Inv-loop
     μ-loop
     loop-holds
-    highest-requires
+    (λ c κs. search needs)
     cast-j
     add-j
     returns
-    mul-is-inside
-    shared-slice-read-is-inside
-    is-inside-requires
+    (λ c. omega arith)
+    (λ c. omega arith)
+    (λ c κs. search needs)
     returns-2
     cast-rest
     shl-rest

@@ -5,16 +5,10 @@ use Rattle.kept.specs.Rows.{unionTo}
 use Rattle.kept.proofs.rows.leaf_set.Statement.{statement}
 use Rattle.kept.proofs.rows.leaf_set.Tie as tie
 
-shown-rows-requires : tie.Need-shown-rows-requires
-shown-rows-requires c κs = search needs
-
-union-to-requires : tie.Need-union-to-requires
-union-to-requires c κs = search needs
-
 returns : tie.Need-returns
 returns c =
     let at-rows = c .before .before .before .before in
     c .union-to .ensures ∙ ap (unionTo (at-rows .before .args .t1 .clusters)) (at-rows .shown-rows .ensures)
 
 pub leaf-set-spec : {M : Type 1} → statement M
-leaf-set-spec = tie.close (tie.spec shown-rows-requires union-to-requires returns)
+leaf-set-spec = tie.close (tie.spec (λ c κs. search needs) (λ c κs. search needs) returns)

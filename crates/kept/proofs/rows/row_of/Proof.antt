@@ -5,12 +5,6 @@ use Rattle.kept.specs.Rows.{placeFrom}
 use Rattle.kept.proofs.rows.row_of.Statement.{statement}
 use Rattle.kept.proofs.rows.row_of.Tie as tie
 
-shown-rows-requires : tie.Need-shown-rows-requires
-shown-rows-requires c κs = search needs
-
-place-of-requires : tie.Need-place-of-requires
-place-of-requires c κs = search needs
-
 returns : tie.Need-returns
 returns c =
     let at-rows = c .before .before .before .before in
@@ -18,4 +12,4 @@ returns c =
     ∙ ap (placeFrom (at-rows .before .args .t1 .clusters) (at-rows .before .args .cluster) 0) (at-rows .shown-rows .ensures)
 
 pub row-of-spec : {M : Type 1} → statement M
-row-of-spec = tie.close (tie.spec shown-rows-requires place-of-requires returns)
+row-of-spec = tie.close (tie.spec (λ c κs. search needs) (λ c κs. search needs) returns)

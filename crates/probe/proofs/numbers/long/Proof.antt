@@ -8,8 +8,5 @@ use Rattle.probe.proofs.numbers.long.Tie as tie
 cast-result : tie.Need-cast-result
 cast-result c = rw (toZ-ofZ (c .fits .z)) (sfits-widen {w = w32} tt (c .fits .z))
 
-returns : tie.Need-returns
-returns c = search needs
-
 pub long-spec : {M : Type 1} → statement M
-long-spec = tie.close (tie.spec cast-result returns)
+long-spec = tie.close (tie.spec cast-result (λ c. search needs))

@@ -17,17 +17,11 @@ itself-pos : (z : ℤ) → SFits w64 z → ltZ z (pos 0) ≡ false → T (nonNeg
 itself-pos (pos n) f e = (tt, record { fits = omega arith })
 itself-pos (negsuc n) f e = let z : _≡_ {A = ℕ} 0 1 = cc in absurd (omega arith)
 
-returns : tie.Need-returns
-returns c = search needs
-
 cast-result : tie.Need-cast-result
 cast-result c =
     let z = c .before .args .z in
     let f = c .before .fits .z in
     rw (toZ-ofZ f) (itself-pos z f (rw (toZ-ofZ f) at (c .if1 .left)))
 
-returns-2 : tie.Need-returns-2
-returns-2 c = search needs
-
 pub size-of-spec : {M : Type 1} → statement M
-size-of-spec = tie.close (tie.spec returns cast-result returns-2)
+size-of-spec = tie.close (tie.spec (λ c. search needs) cast-result (λ c. search needs))

@@ -4,17 +4,11 @@ use Rattle.report.proofs.Laws.Words.{countWord-many, countWord-one}
 use Rattle.report.proofs.joining.put_count.Statement.{statement}
 use Rattle.report.proofs.joining.put_count.Tie as tie
 
-slice-aggregate-put-bytes : tie.Need-slice-aggregate-put-bytes
-slice-aggregate-put-bytes c = search needs
-
 put-bytes-requires : tie.Need-put-bytes-requires
 put-bytes-requires c κs =
     let test = c .before .before in
     let s = test .before .before in
     rw (countWord-many (s .args .count) (s .args .mark) (test .if1 .taken)) at (s .pre)
-
-same-length : tie.Need-same-length
-same-length c = search needs
 
 returns : tie.Need-returns
 returns c =
@@ -29,9 +23,6 @@ put-decimal-requires c κs =
     let s = test .before .before in
     rw (countWord-one (s .args .count) (s .args .mark) (test .if1 .left)) at (s .pre)
 
-same-length-2 : tie.Need-same-length-2
-same-length-2 c = search needs
-
 returns-2 : tie.Need-returns-2
 returns-2 c =
     let call = c .before .before in
@@ -43,10 +34,10 @@ pub put-count-spec : {M : Type 1} → statement M
 put-count-spec =
     tie.close
     (tie.spec
-    slice-aggregate-put-bytes
+    (λ c. search needs)
     put-bytes-requires
-    same-length
+    (λ c. search needs)
     returns
     put-decimal-requires
-    same-length-2
+    (λ c. search needs)
     returns-2)

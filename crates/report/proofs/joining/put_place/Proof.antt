@@ -9,17 +9,11 @@ use Rattle.report.proofs.Laws.Words.{placeWord-bad, placeWord-repeated,
 use Rattle.report.proofs.joining.put_place.Statement.{statement}
 use Rattle.report.proofs.joining.put_place.Tie as tie
 
-enum-known-refusal : tie.Need-enum-known-refusal
-enum-known-refusal c = search needs
-
 put-position-requires : tie.Need-put-position-requires
 put-position-requires c κs =
     let told = c .before .before in
     let s = told .before .before .before in
     rw (placeWord-bad (s .args .refusal) (told .refusal .given .0 .0) (told .refusal .given .1)) at (s .pre)
-
-enum-known-refusal-2 : tie.Need-enum-known-refusal-2
-enum-known-refusal-2 c = search needs
 
 put-position-requires-2 : tie.Need-put-position-requires-2
 put-position-requires-2 c κs =
@@ -27,18 +21,12 @@ put-position-requires-2 c κs =
     let s = told .before .before .before in
     rw (placeWord-repeated (s .args .refusal) (told .refusal2 .given .0 .0) (told .refusal2 .given .1)) at (s .pre)
 
-same-length : tie.Need-same-length
-same-length c = search needs
-
 returns : tie.Need-returns
 returns c =
     let call = c .before .before in
     let told = call .before .before .before in
     let f = told .before .before .before .args .refusal in
     rw (placeWord-bad f (told .refusal .given .0 .0) (told .refusal .given .1)) (call .put-position .ensures)
-
-same-length-2 : tie.Need-same-length-2
-same-length-2 c = search needs
 
 returns-2 : tie.Need-returns-2
 returns-2 c =
@@ -59,12 +47,12 @@ pub put-place-spec : {M : Type 1} → statement M
 put-place-spec =
     tie.close
     (tie.spec
-    enum-known-refusal
+    (λ c. search needs)
     put-position-requires
-    enum-known-refusal-2
+    (λ c. search needs)
     put-position-requires-2
-    same-length
+    (λ c. search needs)
     returns
-    same-length-2
+    (λ c. search needs)
     returns-2
     returns-3)

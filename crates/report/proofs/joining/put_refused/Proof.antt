@@ -78,17 +78,11 @@ put-decimal-requires c κs =
     let s = c .before .before in
     rest-room (decimal (s .args .degree)) (from-word s) (left-all s)
 
-slice-aggregate-put-bytes : tie.Need-slice-aggregate-put-bytes
-slice-aggregate-put-bytes c = search needs
-
 put-bytes-requires : tie.Need-put-bytes-requires
 put-bytes-requires c κs =
     let arg = c .before in
     let call = arg .before .before .before in
     rest-room refusedWord (from-number (start call)) (left-word call)
-
-number-of-requires : tie.Need-number-of-requires
-number-of-requires c κs = search needs
 
 put-decimal-requires-2 : tie.Need-put-decimal-requires-2
 put-decimal-requires-2 c κs =
@@ -119,9 +113,9 @@ put-refused-spec =
     tie.close
     (tie.spec
     put-decimal-requires
-    slice-aggregate-put-bytes
+    (λ c. search needs)
     put-bytes-requires
-    number-of-requires
+    (λ c κs. search needs)
     put-decimal-requires-2
     put-place-requires
     slice-write-room

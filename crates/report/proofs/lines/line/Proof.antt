@@ -23,12 +23,6 @@ module _ (c : tie.After-put-line) where
 
 -- ---- the needs
 
-slice-aggregate-put-line : tie.Need-slice-aggregate-put-line
-slice-aggregate-put-line c = search needs
-
-put-line-requires : tie.Need-put-line-requires
-put-line-requires c κs = search needs
-
 returns : tie.Need-returns
 returns c =
     let call = c .before .before in
@@ -46,9 +40,6 @@ put-bytes-requires c κs =
     let test = c .before .before in
     omega (arith, front-count (whole (test .before .before)), test .if1 .left)
 
-same-length : tie.Need-same-length
-same-length c = search needs
-
 returns-2 : tie.Need-returns-2
 returns-2 c =
     let copied = c .before .before in
@@ -61,11 +52,11 @@ pub line-spec : {M : Type 1} → statement M
 line-spec =
     tie.close
     (tie.spec
-    slice-aggregate-put-line
-    put-line-requires
+    (λ c. search needs)
+    (λ c κs. search needs)
     returns
     array-share-prefix-bytes
     slice-aggregate-put-bytes
     put-bytes-requires
-    same-length
+    (λ c. search needs)
     returns-2)

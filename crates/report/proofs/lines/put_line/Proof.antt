@@ -12,21 +12,12 @@ start c = c .before .before .before
 
 -- ---- the needs
 
-build-requires : tie.Need-build-requires
-build-requires c κs = search needs
-
-enum-known-answer : tie.Need-enum-known-answer
-enum-known-answer c = search needs
-
 put-refused-requires : tie.Need-put-refused-requires
 put-refused-requires c κs =
     let told = c .before .before in
     let built = told .before .before in
     let s = start built in
     refused-fits (now (s .args .list)) (s .args .degree) (s .fits .degree .fits) (s .pre) (built .build .ensures) (told .answer .given .1)
-
-enum-told : tie.Need-enum-told
-enum-told c = search needs
 
 put-table-requires : tie.Need-put-table-requires
 put-table-requires c κs =
@@ -35,9 +26,6 @@ put-table-requires c κs =
     let s = start built in
     (degree-lt (now (s .args .list)) (s .args .degree) (built .build .ensures) (told .enum-told .given .1), s .pre)
 
-same-length : tie.Need-same-length
-same-length c = search needs
-
 returns : tie.Need-returns
 returns c =
     let call = c .before .before in
@@ -45,9 +33,6 @@ returns c =
     let built = told .before .before in
     let s = start built in
     rw (built-refused (now (s .args .list)) (s .args .degree) (built .build .ensures) (told .answer .given .1)) (call .put-refused .ensures)
-
-same-length-2 : tie.Need-same-length-2
-same-length-2 c = search needs
 
 returns-2 : tie.Need-returns-2
 returns-2 c =
@@ -61,12 +46,12 @@ pub put-line-spec : {M : Type 1} → statement M
 put-line-spec =
     tie.close
     (tie.spec
-    build-requires
-    enum-known-answer
+    (λ c κs. search needs)
+    (λ c. search needs)
     put-refused-requires
-    enum-told
+    (λ c. search needs)
     put-table-requires
-    same-length
+    (λ c. search needs)
     returns
-    same-length-2
+    (λ c. search needs)
     returns-2)

@@ -56,29 +56,11 @@ read-row c = c .before .before .before
 
 -- ---- the needs
 
-slice-aggregate-text : tie.Need-slice-aggregate-text
-slice-aggregate-text c = search needs
-
-text-requires : tie.Need-text-requires
-text-requires c κs = search needs
-
-enum-known-answer : tie.Need-enum-known-answer
-enum-known-answer c = search needs
-
 put-refused-requires : tie.Need-put-refused-requires
 put-refused-requires c κs =
     let at-told = c .before .before in
     let s = start (asked at-told) in
     table-refused-fits (s .args .degree) (s .args .t2) (s .pre .0) (s .pre .1) (refused at-told)
-
-enum-known-answer-2 : tie.Need-enum-known-answer-2
-enum-known-answer-2 c = search needs
-
-leaf-set-requires : tie.Need-leaf-set-requires
-leaf-set-requires c κs = search needs
-
-row-of-requires : tie.Need-row-of-requires
-row-of-requires c κs = search needs
 
 mul-count : tie.Need-mul-count
 mul-count c = omega (arith, row-lt c)
@@ -108,18 +90,12 @@ put-tree-requires c κs =
     let d = drawn (told row) in
     table-drawn-fits (s .args .degree) (s .args .t2) (s .pre .0) (s .pre .1) (d .0) (row-is row) (d .1 .front)
 
-same-length : tie.Need-same-length
-same-length c = search needs
-
 returns : tie.Need-returns
 returns c =
     let call = c .before .before in
     let at-told = call .before .before .before in
     let s = start (asked at-told) in
     rw (table-refused (s .args .degree) (s .args .t2) (refused at-told)) (call .put-refused .ensures)
-
-same-length-2 : tie.Need-same-length-2
-same-length-2 c = search needs
 
 returns-2 : tie.Need-returns-2
 returns-2 c =
@@ -134,13 +110,13 @@ pub put-table-spec : {M : Type 1} → statement M
 put-table-spec =
     tie.close
     (tie.spec
-    slice-aggregate-text
-    text-requires
-    enum-known-answer
+    (λ c. search needs)
+    (λ c κs. search needs)
+    (λ c. search needs)
     put-refused-requires
-    enum-known-answer-2
-    leaf-set-requires
-    row-of-requires
+    (λ c. search needs)
+    (λ c κs. search needs)
+    (λ c κs. search needs)
     mul-count
     element-copy-out-count
     element-copy-out-mark
@@ -149,7 +125,7 @@ put-table-spec =
     array-share-prefix-bytes
     slice-aggregate-put-tree
     put-tree-requires
-    same-length
+    (λ c. search needs)
     returns
-    same-length-2
+    (λ c. search needs)
     returns-2)

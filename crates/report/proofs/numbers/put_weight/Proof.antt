@@ -50,9 +50,6 @@ add-put-decimal c =
     let z = s .args .weight in
     rw (toZ-ofZ (fits s), flip-units z (fits s) (negative c)) (units-fits z (fits s) (negative c))
 
-add-put-decimal-2 : tie.Need-add-put-decimal-2
-add-put-decimal-2 c = search needs
-
 put-decimal-requires : tie.Need-put-decimal-requires
 put-decimal-requires c κs =
     let test = c .before in
@@ -86,9 +83,6 @@ put-decimal-requires-2 c κs =
     let s = c .before .before .before in
     rw (toZ-ofZ (fits s)) (rw (signed-pos (s .args .weight) (not-negative (c .before))) at (s .pre))
 
-same-length-2 : tie.Need-same-length-2
-same-length-2 c = search needs
-
 returns-2 : tie.Need-returns-2
 returns-2 c =
     let call = c .before .before in
@@ -104,11 +98,11 @@ put-weight-spec =
     sub-put-decimal
     cast-put-decimal
     add-put-decimal
-    add-put-decimal-2
+    (λ c. search needs)
     put-decimal-requires
     same-length
     returns
     cast-put-decimal-2
     put-decimal-requires-2
-    same-length-2
+    (λ c. search needs)
     returns-2)

@@ -7,17 +7,11 @@ use Rattle.table.proofs.Laws.Build.{build-of}
 use Rattle.table.proofs.making.build.Statement.{statement}
 use Rattle.table.proofs.making.build.Tie as tie
 
-refused-requires : tie.Need-refused-requires
-refused-requires c κs = search needs
-
 returns : tie.Need-returns
 returns c =
     let start = c .before .before .before in
     let why = refusal-low (now (start .args .list)) (start .args .degree) (c .before .if1 .taken) in
     c .refused .ensures ∙ sym (build-of _ _ why)
-
-refused-requires-2 : tie.Need-refused-requires-2
-refused-requires-2 c κs = search needs
 
 returns-2 : tie.Need-returns-2
 returns-2 c =
@@ -26,9 +20,6 @@ returns-2 c =
     let why = refusal-high (now (start .args .list)) (start .args .degree) (low .if1 .left) (c .before .if2 .taken) in
     c .refused2 .ensures ∙ sym (build-of _ _ why)
 
-refused-requires-3 : tie.Need-refused-requires-3
-refused-requires-3 c κs = search needs
-
 returns-3 : tie.Need-returns-3
 returns-3 c =
     let high = c .before .before in
@@ -36,9 +27,6 @@ returns-3 c =
     let start = low .before .before in
     let why = refusal-empty (now (start .args .list)) (start .args .degree) (low .if1 .left) (high .if2 .left) (c .before .if3 .taken) in
     c .refused3 .ensures ∙ sym (build-of _ _ why)
-
-refused-requires-4 : tie.Need-refused-requires-4
-refused-requires-4 c κs = search needs
 
 returns-4 : tie.Need-returns-4
 returns-4 c =
@@ -50,9 +38,6 @@ returns-4 c =
     (c .before .if4 .taken) in
     c .refused4 .ensures ∙ sym (build-of _ _ why)
 
-refused-requires-5 : tie.Need-refused-requires-5
-refused-requires-5 c κs = search needs
-
 returns-5 : tie.Need-returns-5
 returns-5 c =
     let short = c .before .before in
@@ -63,9 +48,6 @@ returns-5 c =
     let why = refusal-cut (now (start .args .list)) (start .args .degree) (low .if1 .left) (high .if2 .left) (filled .if3 .left)
     (short .if4 .left) (c .before .if5 .taken) in
     c .refused5 .ensures ∙ sym (build-of _ _ why)
-
-made-requires : tie.Need-made-requires
-made-requires c κs = search needs
 
 returns-6 : tie.Need-returns-6
 returns-6 c =
@@ -82,15 +64,15 @@ pub build-spec : {M : Type 1} → statement M
 build-spec =
     tie.close
     (tie.spec
-    refused-requires
+    (λ c κs. search needs)
     returns
-    refused-requires-2
+    (λ c κs. search needs)
     returns-2
-    refused-requires-3
+    (λ c κs. search needs)
     returns-3
-    refused-requires-4
+    (λ c κs. search needs)
     returns-4
-    refused-requires-5
+    (λ c κs. search needs)
     returns-5
-    made-requires
+    (λ c κs. search needs)
     returns-6)

@@ -26,22 +26,10 @@ in-order c =
     let at-whole = c .before .before .before in
     record { read = at-whole .before .read-all .ensures; whole = at-whole .if1 .left; order = c .ordered .ensures }
 
-read-all-requires : tie.Need-read-all-requires
-read-all-requires c κs = search needs
-
-refused-requires : tie.Need-refused-requires
-refused-requires c κs = search needs
-
 returns : tie.Need-returns
 returns c =
     let at-read = c .before .before in
     c .refused .ensures ∙ sym (made-bad (at-read .before .before .args .degree) (at-read .read-all .ensures) (c .before .if1 .taken))
-
-ordered-requires : tie.Need-ordered-requires
-ordered-requires c κs = search needs
-
-refused-requires-2 : tie.Need-refused-requires-2
-refused-requires-2 c κs = search needs
 
 returns-2 : tie.Need-returns-2
 returns-2 c = c .refused2 .ensures ∙ sym (made-repeated _ (in-order (c .before .before)) (c .before .if2 .taken))
@@ -78,11 +66,11 @@ pub made-spec : {M : Type 1} → statement M
 made-spec =
     tie.close
     (tie.spec
-    read-all-requires
-    refused-requires
+    (λ c κs. search needs)
+    (λ c κs. search needs)
     returns
-    ordered-requires
-    refused-requires-2
+    (λ c κs. search needs)
+    (λ c κs. search needs)
     returns-2
     arranged-requires
     again-requires

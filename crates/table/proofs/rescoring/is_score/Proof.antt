@@ -6,16 +6,10 @@ use Rattle.cluster.specs.Rule.{isKept}
 use Rattle.table.proofs.rescoring.is_score.Statement.{statement}
 use Rattle.table.proofs.rescoring.is_score.Tie as tie
 
-broken-rule-requires : tie.Need-broken-rule-requires
-broken-rule-requires c κs = search needs
-
-is-kept-requires : tie.Need-is-kept-requires
-is-kept-requires c κs = search needs
-
 returns : tie.Need-returns
 returns c =
     let s = c .before .before in
     c .is-kept .ensures ∙ ap isKept (rw (toZ-ofZ (s .fits .weight)) at (c .before .broken-rule .ensures))
 
 pub is-score-spec : {M : Type 1} → statement M
-is-score-spec = tie.close (tie.spec broken-rule-requires is-kept-requires returns)
+is-score-spec = tie.close (tie.spec (λ c κs. search needs) (λ c κs. search needs) returns)

@@ -63,17 +63,11 @@ score c =
 
 -- ---- needs
 
-is-fit-requires : tie.Need-is-fit-requires
-is-fit-requires c κs = search needs
-
 returns : tie.Need-returns
 returns c =
     let s = c .before .before in
     rescore-unfit (s .args .given) (s .args .cluster) (s .args .weight) (s .args .state)
     (sym (c .before .is-fit .ensures) ∙ not-true _ (c .if1 .taken))
-
-row-of-requires : tie.Need-row-of-requires
-row-of-requires c κs = search needs
 
 returns-2 : tie.Need-returns-2
 returns-2 c =
@@ -81,9 +75,6 @@ returns-2 c =
     let f = fits-at (c .before) in
     rescore-no-row (s .args .given) (s .args .cluster) (s .args .weight) (s .args .state) (fit f)
     (row-missing (s .args .given) (capped f) (s .args .cluster) _ (c .before .before .row-of .ensures) (c .if2 .taken))
-
-is-score-requires : tie.Need-is-score-requires
-is-score-requires c κs = search needs
 
 returns-3 : tie.Need-returns-3
 returns-3 c =
@@ -128,11 +119,11 @@ pub rescore-spec : {M : Type 1} → statement M
 rescore-spec =
     tie.close
     (tie.spec
-    is-fit-requires
+    (λ c κs. search needs)
     returns
-    row-of-requires
+    (λ c κs. search needs)
     returns-2
-    is-score-requires
+    (λ c κs. search needs)
     returns-3
     mul-weight
     element-set-from-weight

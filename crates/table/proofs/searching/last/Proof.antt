@@ -19,27 +19,12 @@ start c = c .before .before .before .before .before .before .before
 words : (c : tie.After-place-below) → LowWords (given (start c))
 words c i = c .before .before .shared-slice-known5 .given i .fits
 
-place-below-requires : tie.Need-place-below-requires
-place-below-requires c κs = search needs
-
-none-requires : tie.Need-none-requires
-none-requires c κs = search needs
-
 returns : tie.Need-returns
 returns c =
     let placed = c .before .before in
     let r = start placed .pre in
     c .none .ensures
     ∙ missing-is _ (given (start placed)) _ _ (r .0 .sound) _ (r .1 .0) _ (placed .place-below .ensures) (c .before .if1 .taken)
-
-mul-if2 : tie.Need-mul-if2
-mul-if2 c = search needs
-
-shared-slice-read-if2 : tie.Need-shared-slice-read-if2
-shared-slice-read-if2 c = search needs
-
-none-requires-2 : tie.Need-none-requires-2
-none-requires-2 c κs = search needs
 
 returns-2 : tie.Need-returns-2
 returns-2 c =
@@ -50,12 +35,6 @@ returns-2 c =
     ∙ other-is _ (given (start placed)) _ _ (r .0 .sound) _ (r .1 .0) _ (placed .place-below .ensures) (there .if1 .left)
     (c .before .if2 .taken)
 
-shared-slice-read-if3 : tie.Need-shared-slice-read-if3
-shared-slice-read-if3 c = search needs
-
-none-requires-3 : tie.Need-none-requires-3
-none-requires-3 c κs = search needs
-
 returns-3 : tie.Need-returns-3
 returns-3 c =
     let equal = c .before .before .before in
@@ -65,9 +44,6 @@ returns-3 c =
     c .none3 .ensures
     ∙ unscored-is _ (given (start placed)) _ _ (r .0 .sound) _ (r .1 .0) _ (placed .place-below .ensures) (there .if1 .left)
     (equal .if2 .left) (c .before .if3 .taken)
-
-part-requires : tie.Need-part-requires
-part-requires c κs = search needs
 
 returns-4 : tie.Need-returns-4
 returns-4 c =
@@ -82,5 +58,5 @@ returns-4 c =
 pub last-spec : {M : Type 1} → statement M
 last-spec =
     tie.close
-    (tie.spec place-below-requires none-requires returns mul-if2 shared-slice-read-if2 none-requires-2 returns-2 shared-slice-read-if3
-    none-requires-3 returns-3 part-requires returns-4)
+    (tie.spec (λ c κs. search needs) (λ c κs. search needs) returns (λ c. search needs) (λ c. search needs) (λ c κs. search needs) returns-2 (λ c. search needs)
+    (λ c κs. search needs) returns-3 (λ c κs. search needs) returns-4)

@@ -16,23 +16,8 @@ abbrev μ-loop : tie.MeasureT-loop
 loop-holds : tie.Need-loop-holds Inv-loop μ-loop
 loop-holds c = subst (Begun _ _ 0) (sym (c .before .pre .0)) (begun-none _ _)
 
-shl-place-below : tie.Need-shl-place-below Inv-loop μ-loop
-shl-place-below c = omega arith
-
 place-below-requires : tie.Need-place-below-requires Inv-loop μ-loop
 place-below-requires c κs = (c .before .before .before .pre .1, past-none _ _ _)
-
-mul-starts : tie.Need-mul-starts Inv-loop μ-loop
-mul-starts c = omega arith
-
-element-write-starts : tie.Need-element-write-starts Inv-loop μ-loop
-element-write-starts c = omega arith
-
-add-taxon : tie.Need-add-taxon Inv-loop μ-loop
-add-taxon c = omega arith
-
-loop-less : tie.Need-loop-less Inv-loop μ-loop
-loop-less c = omega arith
 
 loop-again : tie.Need-loop-again Inv-loop μ-loop
 loop-again c =
@@ -47,5 +32,5 @@ returns c =
 pub put-starts-spec : {M : Type 1} → statement M
 put-starts-spec =
     tie.close
-    (tie.spec Inv-loop μ-loop loop-holds shl-place-below place-below-requires mul-starts element-write-starts add-taxon loop-less loop-again
+    (tie.spec Inv-loop μ-loop loop-holds (λ c. omega arith) place-below-requires (λ c. omega arith) (λ c. omega arith) (λ c. omega arith) (λ c. omega arith) loop-again
     returns)

@@ -5,14 +5,8 @@ use Rattle.table.proofs.Laws.Tally.{isBefore-heavier, isBefore-lighter,
 use Rattle.table.proofs.tally.is_before.Statement.{statement}
 use Rattle.table.proofs.tally.is_before.Tie as tie
 
-is-heavier-requires : tie.Need-is-heavier-requires
-is-heavier-requires c κs = search needs
-
 returns : tie.Need-returns
 returns c = let a = c .before .before .args in sym (isBefore-heavier (a .a) (a .b) (sym (c .before .is-heavier .ensures) ∙ c .if1 .taken))
-
-is-heavier-requires-2 : tie.Need-is-heavier-requires-2
-is-heavier-requires-2 c κs = search needs
 
 returns-2 : tie.Need-returns-2
 returns-2 c =
@@ -20,9 +14,6 @@ returns-2 c =
     let a = tried .before .before .args in
     sym (isBefore-lighter (a .a) (a .b) (sym (tried .before .is-heavier .ensures) ∙ tried .if1 .left)
     (sym (c .before .is-heavier2 .ensures) ∙ c .if2 .taken))
-
-is-larger-requires : tie.Need-is-larger-requires
-is-larger-requires c κs = search needs
 
 returns-3 : tie.Need-returns-3
 returns-3 c =
@@ -33,4 +24,4 @@ returns-3 c =
     (sym (c .before .before .is-heavier2 .ensures) ∙ c .before .if2 .left))
 
 pub is-before-spec : {M : Type 1} → statement M
-is-before-spec = tie.close (tie.spec is-heavier-requires returns is-heavier-requires-2 returns-2 is-larger-requires returns-3)
+is-before-spec = tie.close (tie.spec (λ c κs. search needs) returns (λ c κs. search needs) returns-2 (λ c κs. search needs) returns-3)

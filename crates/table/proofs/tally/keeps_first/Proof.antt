@@ -11,11 +11,8 @@ returns c = sym (keepsFirst-none-r _ _ (c .if1 .taken))
 returns-2 : tie.Need-returns-2
 returns-2 c = sym (keepsFirst-none-l _ _ (c .before .before .if1 .left) (c .if2 .taken))
 
-is-before-requires : tie.Need-is-before-requires
-is-before-requires c κs = search needs
-
 returns-3 : tie.Need-returns-3
 returns-3 c = c .is-before .ensures ∙ sym (keepsFirst-both _ _ (c .before .before .before .if1 .left) (c .before .if2 .left))
 
 pub keeps-first-spec : {M : Type 1} → statement M
-keeps-first-spec = tie.close (tie.spec returns returns-2 is-before-requires returns-3)
+keeps-first-spec = tie.close (tie.spec returns returns-2 (λ c κs. search needs) returns-3)

@@ -5,15 +5,6 @@ use Rattle.table.proofs.Laws.Tally.{plusTally-first, plusTally-second}
 use Rattle.table.proofs.tally.plus.Statement.{statement}
 use Rattle.table.proofs.tally.plus.Tie as tie
 
-add-tuples : tie.Need-add-tuples
-add-tuples c = search needs
-
-plus-counts-requires : tie.Need-plus-counts-requires
-plus-counts-requires c κs = search needs
-
-keeps-first-requires : tie.Need-keeps-first-requires
-keeps-first-requires c κs = search needs
-
 returns : tie.Need-returns
 returns c =
     let counted = c .before .before in
@@ -27,4 +18,4 @@ returns-2 c =
     plusTally-second (a .limit) (a .a) (a .b) _ (counted .plus-counts .ensures) (sym (c .before .keeps-first .ensures) ∙ c .if1 .left)
 
 pub plus-spec : {M : Type 1} → statement M
-plus-spec = tie.close (tie.spec add-tuples plus-counts-requires keeps-first-requires returns returns-2)
+plus-spec = tie.close (tie.spec (λ c. search needs) (λ c κs. search needs) (λ c κs. search needs) returns returns-2)

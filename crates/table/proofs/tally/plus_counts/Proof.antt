@@ -11,16 +11,10 @@ returns c = sym (plusCounts-marked-l _ _ _ (c .if1 .taken))
 returns-2 : tie.Need-returns-2
 returns-2 c = sym (plusCounts-marked-r _ _ _ (c .before .before .if1 .left) (c .if2 .taken))
 
-sub-if3 : tie.Need-sub-if3
-sub-if3 c = search needs
-
 returns-3 : tie.Need-returns-3
 returns-3 c =
     let second = c .before .before .before in
     sym (plusCounts-past _ _ _ (second .before .before .if1 .left) (second .if2 .left) (c .if3 .taken))
-
-add-t5 : tie.Need-add-t5
-add-t5 c = search needs
 
 returns-4 : tie.Need-returns-4
 returns-4 c =
@@ -29,4 +23,4 @@ returns-4 c =
     sym (plusCounts-exact _ _ _ (second .before .before .if1 .left) (second .if2 .left) (third .if3 .left))
 
 pub plus-counts-spec : {M : Type 1} → statement M
-plus-counts-spec = tie.close (tie.spec returns returns-2 sub-if3 returns-3 add-t5 returns-4)
+plus-counts-spec = tie.close (tie.spec returns returns-2 (λ c. search needs) returns-3 (λ c. search needs) returns-4)

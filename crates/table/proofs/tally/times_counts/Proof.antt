@@ -24,9 +24,6 @@ returns-4 c =
     let second = third .before .before in
     sym (timesCounts-marked-r _ _ _ (second .before .before .if1 .left) (second .if2 .left) (third .if3 .left) (c .if4 .taken))
 
-div-if5 : tie.Need-div-if5
-div-if5 c = search needs
-
 returns-5 : tie.Need-returns-5
 returns-5 c =
     let fourth = c .before .before .before in
@@ -54,4 +51,4 @@ returns-6 c =
     (fifth .if5 .left))
 
 pub times-counts-spec : {M : Type 1} → statement M
-times-counts-spec = tie.close (tie.spec returns returns-2 returns-3 returns-4 div-if5 returns-5 mul-t5 returns-6)
+times-counts-spec = tie.close (tie.spec returns returns-2 returns-3 returns-4 (λ c. search needs) returns-5 mul-t5 returns-6)

@@ -4,25 +4,10 @@ use Rattle.table.proofs.Laws.Tally.{underTally-dead, underTally-live}
 use Rattle.table.proofs.tally.under.Statement.{statement}
 use Rattle.table.proofs.tally.under.Tie as tie
 
-times-counts-requires : tie.Need-times-counts-requires
-times-counts-requires c κs = search needs
-
-none-requires : tie.Need-none-requires
-none-requires c κs = search needs
-
 returns : tie.Need-returns
 returns c =
     let counted = c .before .before .before in
     underTally-dead _ _ _ _ (c .none .result) (counted .times-counts .ensures) (c .none .ensures) (c .before .if1 .taken)
-
-joint-requires : tie.Need-joint-requires
-joint-requires c κs = search needs
-
-add-r : tie.Need-add-r
-add-r c = search needs
-
-add-r-2 : tie.Need-add-r-2
-add-r-2 c = search needs
 
 returns-2 : tie.Need-returns-2
 returns-2 c =
@@ -31,4 +16,4 @@ returns-2 c =
     underTally-live _ _ _ _ _ (counted .times-counts .ensures) (c .before .before .before .before .joint .ensures) (lives .if1 .left)
 
 pub under-spec : {M : Type 1} → statement M
-under-spec = tie.close (tie.spec times-counts-requires none-requires returns joint-requires add-r add-r-2 returns-2)
+under-spec = tie.close (tie.spec (λ c κs. search needs) (λ c κs. search needs) returns (λ c κs. search needs) (λ c. search needs) (λ c. search needs) returns-2)

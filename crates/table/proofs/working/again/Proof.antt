@@ -72,9 +72,6 @@ mul-weight c = omega (arith, room (in-loop c))
 element-copy-out-weight : tie.Need-element-copy-out-weight Inv-loop μ-loop
 element-copy-out-weight c = room (in-loop c)
 
-slice-aggregate-worked : tie.Need-slice-aggregate-worked Inv-loop μ-loop
-slice-aggregate-worked c = search needs
-
 worked-requires : tie.Need-worked-requires Inv-loop μ-loop
 worked-requires c κs =
     let inside = in-loop (row c) in
@@ -163,7 +160,7 @@ again-spec =
     is-inside-requires
     mul-weight
     element-copy-out-weight
-    slice-aggregate-worked
+    (λ c. search needs)
     worked-requires
     mul-t
     element-write-t

@@ -7,11 +7,8 @@ use Rattle.table.proofs.working.high_mark.Tie as tie
 returns : tie.Need-returns
 returns c = high-mark-none _ (c .if1 .taken)
 
-shl-result : tie.Need-shl-result
-shl-result c = search needs
-
 returns-2 : tie.Need-returns-2
 returns-2 c = high-mark-shift _ (c .if1 .left) (c .before .pre)
 
 pub high-mark-spec : {M : Type 1} → statement M
-high-mark-spec = tie.close (tie.spec returns shl-result returns-2)
+high-mark-spec = tie.close (tie.spec returns (λ c. search needs) returns-2)

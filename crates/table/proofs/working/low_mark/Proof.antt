@@ -4,9 +4,6 @@ use Rattle.table.proofs.Laws.Working.{low-mark-shift, low-mark-none}
 use Rattle.table.proofs.working.low_mark.Statement.{statement}
 use Rattle.table.proofs.working.low_mark.Tie as tie
 
-shl-result : tie.Need-shl-result
-shl-result c = search needs
-
 returns : tie.Need-returns
 returns c = low-mark-shift _ (c .if1 .taken)
 
@@ -14,4 +11,4 @@ returns-2 : tie.Need-returns-2
 returns-2 c = low-mark-none _ (c .if1 .left)
 
 pub low-mark-spec : {M : Type 1} → statement M
-low-mark-spec = tie.close (tie.spec shl-result returns returns-2)
+low-mark-spec = tie.close (tie.spec (λ c. search needs) returns returns-2)

@@ -14,12 +14,6 @@ narrow s = search needs
 cast-best : tie.Need-cast-best
 cast-best c = rw (toZ-ofZ (narrow c)) (sfits-widen tt (narrow c))
 
-low-mark-requires : tie.Need-low-mark-requires
-low-mark-requires c κs = search needs
-
-high-mark-requires : tie.Need-high-mark-requires
-high-mark-requires c κs = search needs
-
 returns : tie.Need-returns
 returns c =
     let start = c .before .before in
@@ -30,4 +24,4 @@ returns c =
     (c .high-mark .ensures)
 
 pub own-spec : {M : Type 1} → statement M
-own-spec = tie.close (tie.spec cast-best low-mark-requires high-mark-requires returns)
+own-spec = tie.close (tie.spec cast-best (λ c κs. search needs) (λ c κs. search needs) returns)

@@ -28,29 +28,11 @@ narrow s = search needs
 
 -- ---- needs
 
-shared-slice-read-if1 : tie.Need-shared-slice-read-if1
-shared-slice-read-if1 c = search needs
-
-none-requires : tie.Need-none-requires
-none-requires c κs = search needs
-
 returns : tie.Need-returns
 returns c =
     let s = start (c .before .before) in
     c .none .ensures
     ∙ worked-unscored (columnsAt s) (s .args .starts .now) (s .args .weight) (s .args .i) (s .args .degree) (s .pre) (c .before .if1 .taken)
-
-mul-c : tie.Need-mul-c
-mul-c c = search needs
-
-shared-slice-read-c : tie.Need-shared-slice-read-c
-shared-slice-read-c c = search needs
-
-is-single-requires : tie.Need-is-single-requires
-is-single-requires c κs = search needs
-
-own-requires : tie.Need-own-requires
-own-requires c κs = search needs
 
 returns-2 : tie.Need-returns-2
 returns-2 c =
@@ -62,9 +44,6 @@ returns-2 c =
     ∙ worked-single (columnsAt s) (s .args .starts .now) (s .args .weight) (s .args .i) (s .args .degree) (s .pre) (scored .if1 .left)
     (sym (single .is-single .ensures) ∙ c .before .if2 .taken)
 
-sub-search : tie.Need-sub-search
-sub-search c = search needs
-
 search-requires : tie.Need-search-requires
 search-requires c κs =
     let scored = c .before .before .before in
@@ -72,9 +51,6 @@ search-requires c κs =
       searchable (columnsAt s) (s .args .starts .now) (s .args .weight) (s .args .i) (s .args .degree) (s .pre),
       (omega (arith, s .pre .low), omega (arith, s .pre .high)),
     )
-
-own-requires-2 : tie.Need-own-requires-2
-own-requires-2 c κs = search needs
 
 under-requires : tie.Need-under-requires
 under-requires c κs =
@@ -101,16 +77,16 @@ pub worked-spec : {M : Type 1} → statement M
 worked-spec =
     tie.close
     (tie.spec
-    shared-slice-read-if1
-    none-requires
+    (λ c. search needs)
+    (λ c κs. search needs)
     returns
-    mul-c
-    shared-slice-read-c
-    is-single-requires
-    own-requires
+    (λ c. search needs)
+    (λ c. search needs)
+    (λ c κs. search needs)
+    (λ c κs. search needs)
     returns-2
-    sub-search
+    (λ c. search needs)
     search-requires
-    own-requires-2
+    (λ c κs. search needs)
     under-requires
     returns-3)
