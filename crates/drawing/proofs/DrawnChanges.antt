@@ -18,7 +18,7 @@ use Rattle.kept.specs.declared.table.Table.{Table}
 use Rattle.table.specs.Listing.{rowsOf}
 use Rattle.table.specs.Build.{buildTable}
 use Rattle.table.specs.Changes.{changeAll, rescoreAll}
-use Rattle.table.proofs.Changes.{AcceptedBytes, changes-accepted}
+use Rattle.table.proofs.Changing.Changes.{AcceptedBytes, changes-accepted}
 use Rattle.table.proofs.Theorems.{rescore-all-is-build}
 use Rattle.drawing.specs.Draw.{drawRefusal, drawTree, drawText}
 use Rattle.drawing.proofs.LeafRow.{leaves, treesOf}

@@ -28,15 +28,15 @@ use Rattle.cluster.specs.Refusal.{numberOf}
 use Rattle.cluster.specs.Writing.{Wrote, wroteOf}
 use Rattle.trees.specs.Rows.{Row}
 use Rattle.trees.specs.Heaviest.{firstHeaviest}
-use Rattle.trees.proofs.Rows.{givenOf}
+use Rattle.trees.proofs.Formula.Rows.{givenOf}
 use Rattle.trees.proofs.Theorems.{none-iff}
-use Rattle.trees.proofs.TreeFacts.{Given}
+use Rattle.trees.proofs.Sets.TreeFacts.{Given}
 use Rattle.shapes.specs.Drawn.{ascending, textOf}
 use Rattle.shapes.proofs.Backward.{text-reverse}
 use Rattle.shapes.proofs.Theorems.{TreeOn, trees-on, text-length-narrow, list-length-le}
 use Rattle.kept.specs.declared.table.Table.{Table}
 use Rattle.kept.specs.Fit.{isFit}
-use Rattle.table.proofs.FitTables.{Accepted, built-fit}
+use Rattle.table.proofs.Fitting.FitTables.{Accepted, built-fit}
 use Rattle.drawing.specs.Draw.{hasTree, isDrawable}
 use Rattle.drawing.specs.Draw.{drawRefusal, putInto, drawnAs, drawTree, drawText}
 use Rattle.drawing.proofs.Laws.Draw.{refusal-no-tree, refusal-none}

@@ -32,9 +32,9 @@ use Rattle.trees.specs.Tree.{treesOn}
 use Rattle.trees.specs.Heaviest.{firstHeaviest}
 use Rattle.trees.specs.Result.{Result, countField}
 use Rattle.trees.specs.Built.{rowLength, withBest, treeResult, builtResult, builtTable}
-use Rattle.trees.proofs.Rows.{givenOf, mem-scored}
+use Rattle.trees.proofs.Formula.Rows.{givenOf, mem-scored}
 use Rattle.trees.proofs.Theorems.{count-iff}
-use Rattle.trees.proofs.TreeTest.{tree-of}
+use Rattle.trees.proofs.Joined.TreeTest.{tree-of}
 use Rattle.kept.specs.declared.table.Table.{Table}
 use Rattle.kept.specs.View.{rowCap, resultAt, entryAt, entriesOf, tableOf}
 use Rattle.kept.specs.Rows.{shownRows, unionTo, leafSet}
@@ -44,7 +44,7 @@ use Rattle.kept.proofs.Laws.Fit.{isFit→}
 use Rattle.kept.proofs.Laws.Marks.{clusters-are}
 use Rattle.kept.proofs.Laws.Rows.{placeOf-first, hasRow-is, unionTo-is}
 use Rattle.kept.proofs.Laws.View.{entries-table, table-sized}
-use Rattle.table.proofs.FitTables.{Accepted, built-fit}
+use Rattle.table.proofs.Fitting.FitTables.{Accepted, built-fit}
 use Rattle.drawing.specs.Draw.{leafRow, hasTree}
 use Rattle.drawing.proofs.Laws.Draw.{hasTree→, hasTree-count}
 

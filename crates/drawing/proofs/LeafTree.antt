@@ -31,17 +31,17 @@ use Rattle.trees.specs.Heaviest.{weightOf, firstHeaviest}
 use Rattle.trees.specs.Result.{Result, marksOf}
 use Rattle.trees.specs.Built.{withBest}
 use Rattle.trees.proofs.Built.{sets}
-use Rattle.trees.proofs.Rows.{givenOf, mem-scored}
+use Rattle.trees.proofs.Formula.Rows.{givenOf, mem-scored}
 use Rattle.trees.proofs.Theorems.{none-iff, best-is-tree}
-use Rattle.trees.proofs.TreeFacts.{Given, Tree}
-use Rattle.trees.proofs.TreeTest.{tree-of, tree→test}
+use Rattle.trees.proofs.Sets.TreeFacts.{Given, Tree}
+use Rattle.trees.proofs.Joined.TreeTest.{tree-of, tree→test}
 use Rattle.shapes.specs.Drawn.{ascending}
 use Rattle.shapes.proofs.Backward.{isTree-reverse}
 use Rattle.shapes.proofs.Sorted.{ascending-is-reverse}
 use Rattle.kept.specs.declared.table.Table.{Table}
 use Rattle.kept.specs.View.{resultAt}
 use Rattle.kept.specs.Rows.{shownRows, leafSet}
-use Rattle.table.proofs.FitTables.{Accepted}
+use Rattle.table.proofs.Fitting.FitTables.{Accepted}
 use Rattle.drawing.specs.Draw.{leafRow, leafMarks, membersOf, isSame, isDrawable}
 use Rattle.drawing.specs.Marked.{membersTo, scoredTo, weightTo}
 use Rattle.drawing.proofs.LeafRow.{builtFrom, leaves, treesOf, shown-is, rows-are, clusters-down, rising, row-at}

@@ -19,13 +19,13 @@ use Rattle.laws.proofs.Tests.{and-T, or-l, or-r, T-dec}
 use Rattle.trees.specs.Rows.{scored, Entry}
 use Rattle.trees.specs.Heaviest.{weightIn}
 use Rattle.trees.specs.Result.{Result, marksIn}
-use Rattle.trees.proofs.Marks.{marks-lt, marks-inj}
+use Rattle.trees.proofs.Ties.Marks.{marks-lt, marks-inj}
 use Rattle.kept.specs.declared.table.Table.{Table}
 use Rattle.kept.specs.View.{entriesOf}
 use Rattle.kept.specs.Fit.{hasMark, isMarkedIn}
 use Rattle.kept.specs.Arrays.{clustersDown, Rising}
 use Rattle.kept.proofs.Laws.Marks.{mem-clustersDown, falling-clustersDown, isMarkedIn-is}
-use Rattle.table.proofs.Marked.{marksOf-marked}
+use Rattle.table.proofs.Rows.Marked.{marksOf-marked}
 use Rattle.drawing.specs.Marked.{membersTo, scoredTo, weightTo}
 
 abbrev pub Tells : List ℕ → ℕ → (ℕ → Bool) → ℕ → Type 0

@@ -21,8 +21,8 @@ use Rattle.laws.proofs.Tests.{T-true, true-T}
 use Rattle.laws.proofs.Keep.{keep-all, elem→, →elem}
 use Rattle.laws.proofs.Lowest.{lowest-lt}
 use Rattle.trees.specs.Tree.{isTree}
-use Rattle.trees.proofs.TreeFacts.{Given}
-use Rattle.trees.proofs.TreeTest.{famOf, test→tree}
+use Rattle.trees.proofs.Sets.TreeFacts.{Given}
+use Rattle.trees.proofs.Joined.TreeTest.{famOf, test→tree}
 use Rattle.shapes.specs.Decimal.{decimal}
 use Rattle.shapes.specs.Shape.{smallest}
 use Rattle.shapes.specs.Text.{semicolon}

@@ -20,9 +20,9 @@ use Rattle.trees.specs.Rows.{Row, isScored, clustersOf, Entry, cl, sc}
 use Rattle.trees.specs.Result.{Result, blank}
 use Rattle.trees.specs.Built.{builtTable}
 use Rattle.trees.specs.Rescored.{Beneath, keyOf, isLive, firstKey, joined, alone, workedOut}
-use Rattle.trees.proofs.Kind.{tableOf}
-use Rattle.trees.proofs.Rows.{RowFacts, facts-tail, above-rest, table-row}
-use Rattle.trees.proofs.Covers.{chosen, chosen-is, tuples-are-covers}
+use Rattle.trees.proofs.Formula.Kind.{tableOf}
+use Rattle.trees.proofs.Formula.Rows.{RowFacts, facts-tail, above-rest, table-row}
+use Rattle.trees.proofs.Searching.Covers.{chosen, chosen-is, tuples-are-covers}
 use Rattle.trees.proofs.Built.{worked-is-built}
 
 abbrev byTuples : Width → List ℕ → Row → List (List Beneath) → Result

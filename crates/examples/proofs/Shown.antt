@@ -23,8 +23,8 @@ use Rattle.kept.specs.declared.table.Table.{Table}
 use Rattle.kept.specs.Fit.{isFit}
 use Rattle.kept.specs.Rows.{leafSet, hasRow}
 use Rattle.table.specs.Rescore.{isScore, newTable}
-use Rattle.table.proofs.FitTables.{rescored-fit}
-use Rattle.table.proofs.Laws.Rescore.{rescore-done}
+use Rattle.table.proofs.Fitting.FitTables.{rescored-fit}
+use Rattle.table.proofs.Changing.Rescore.{rescore-done}
 use Rattle.drawing.specs.Draw.{hasTree, membersOf, isSame, isDrawable, drawRefusal, putInto, drawnAs, drawTree, drawText}
 use Rattle.drawing.proofs.DrawnTables.{enough}
 use Rattle.drawing.proofs.Laws.Draw.{refusal-no-tree, refusal-none}

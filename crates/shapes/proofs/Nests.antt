@@ -27,7 +27,7 @@ use Rattle.laws.proofs.Taxa.{→single}
 use Rattle.laws.proofs.Lowest.{lowest-in}
 use Rattle.trees.specs.Heaviest.{largest}
 use Rattle.trees.specs.Tree.{children}
-use Rattle.trees.proofs.TieRule.{largest-le}
+use Rattle.trees.proofs.Ties.TieRule.{largest-le}
 use Rattle.shapes.specs.Shape.{smallest}
 use Rattle.shapes.specs.Parts.{childWith}
 

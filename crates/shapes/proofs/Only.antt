@@ -18,7 +18,7 @@ use Rattle.laws.proofs.Keep.{every→}
 use Rattle.laws.proofs.Digits.{Has, has-pow, pow-has}
 use Rattle.laws.proofs.Cluster.{inside-refl, inside-trans, inside-antisym, apart-of-inside, zero-of-apart, inside-unionOf}
 use Rattle.trees.specs.Tuple.{allApart}
-use Rattle.trees.proofs.Tuples.{→tuple, part-other, apart-of-tuple, apart-rest}
+use Rattle.trees.proofs.Sets.Tuples.{→tuple, part-other, apart-of-tuple, apart-rest}
 use Rattle.shapes.specs.Shape.{Shape, taxon, vertex, Shapes, none, more, topOf, topsOf, clustersOf, clustersIn}
 use Rattle.shapes.specs.Shape.{smallest, isOrdered, areOrdered}
 use Rattle.shapes.proofs.Sorted.{rising-only, map-rising}

@@ -29,10 +29,10 @@ use Rattle.laws.proofs.Digits.{has-lt}
 use Rattle.laws.proofs.Falling.{sublist-is-elem}
 use Rattle.laws.proofs.Cluster.{inside-trans, has-of-inside}
 use Rattle.trees.specs.Tree.{treesOn}
-use Rattle.trees.proofs.Families.{Fam, fam-ext}
-use Rattle.trees.proofs.TreeFacts.{Given, Tree}
-use Rattle.trees.proofs.TreeSize.{treesOn-length-le}
-use Rattle.trees.proofs.TreeTest.{famOf, tree-of}
+use Rattle.trees.proofs.Sets.Families.{Fam, fam-ext}
+use Rattle.trees.proofs.Sets.TreeFacts.{Given, Tree}
+use Rattle.trees.proofs.Bounds.TreeSize.{treesOn-length-le}
+use Rattle.trees.proofs.Joined.TreeTest.{famOf, tree-of}
 use Rattle.shapes.specs.Shape.{Shape, topOf, clustersOf, isOrdered}
 use Rattle.shapes.specs.Drawn.{ascending, shapeOf, textOf}
 use Rattle.shapes.proofs.Sorted.{length-sort}

@@ -30,7 +30,7 @@ use Rattle.cluster.specs.Record.{recordBytes}
 use Rattle.cluster.specs.Refusal.{sentOf}
 use Rattle.trees.specs.Rows.{Row}
 use Rattle.trees.specs.Built.{builtTable}
-use Rattle.trees.proofs.Rows.{RowFacts}
+use Rattle.trees.proofs.Formula.Rows.{RowFacts}
 use Rattle.kept.specs.View.{tableOf}
 use Rattle.table.specs.Listing.{recordsIn, rowIn, badFrom, repeats, repeatFrom, rowsOf, recordRefusal}
 use Rattle.table.specs.Build.{Making, refusalOf, buildTable}

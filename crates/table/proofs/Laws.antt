@@ -1,14 +1,4 @@
 -- Laws of the definitions of `specs/`, a file for each.
--- the results of one row stored
-pub mod Stored
--- the code's operations on tallies
-pub mod Tally
--- rows in ascending order
-pub mod Searched
--- a row by itself, and the row worked out by the code
-pub mod Working
--- the outcomes of rescoring
-pub mod Rescore
 -- the first place that passes a test
 pub mod Scan
 -- one row put among others

@@ -52,11 +52,11 @@ use Rattle.table.specs.Rescore.{Changing, isScore, rescoreRefusal, newTa
 use Rattle.table.specs.Changes.{HasCluster, firstPlace, isTaken, changedBytes, changeOne, changeAll, rescoreAll}
 use Rattle.table.proofs.Laws.Accepted.{Accepted}
 use Rattle.table.proofs.Acceptance.{accepted-facts, accepted-rows, built-table}
-use Rattle.table.proofs.Changed.{changed-accepted, changed-rows}
-use Rattle.table.proofs.Changes.{place-cluster, taken-place, taken-iff, AcceptedBytes, change-accepted}
-use Rattle.table.proofs.FitTables.{built-fit}
-use Rattle.table.proofs.RescoredTables.{rescore-of, rescore-accepts-iff, rescore-refused}
-use Rattle.table.proofs.Rewritten.{Bytes}
+use Rattle.table.proofs.Changing.Changed.{changed-accepted, changed-rows}
+use Rattle.table.proofs.Changing.Changes.{place-cluster, taken-place, taken-iff, AcceptedBytes, change-accepted}
+use Rattle.table.proofs.Fitting.FitTables.{built-fit}
+use Rattle.table.proofs.Changing.RescoredTables.{rescore-of, rescore-accepts-iff, rescore-refused}
+use Rattle.table.proofs.Changing.Rewritten.{Bytes}
 use Rattle.table.proofs.Laws.Build.{clusters-of-rows}
 use Rattle.table.proofs.Laws.Listing.{clusters-mem, clusters-has, elem-rows}
 

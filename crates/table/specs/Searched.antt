@@ -20,10 +20,10 @@ use Rattle.laws.specs.Lists.{keep}
 use Rattle.laws.proofs.Falling.{Falling}
 use Rattle.trees.specs.Rows.{Row, isScored, Entry, sc}
 use Rattle.trees.specs.Result.{Result}
-use Rattle.trees.proofs.Covers.{coversOf}
-use Rattle.trees.proofs.Kind.{Kind, overTuples, pairKind}
-use Rattle.trees.proofs.Keys.{countKind, solKind}
-use Rattle.trees.proofs.Capped.{Res}
+use Rattle.trees.proofs.Searching.Covers.{coversOf}
+use Rattle.trees.proofs.Formula.Kind.{Kind, overTuples, pairKind}
+use Rattle.trees.proofs.Counting.Keys.{countKind, solKind}
+use Rattle.trees.proofs.Counting.Capped.{Res}
 use Rattle.kept.specs.declared.table.Table.{Table}
 use Rattle.kept.specs.View.{rowCap, wordValues}
 use Rattle.kept.specs.Arrays.{Rising}

@@ -31,18 +31,18 @@ use Rattle.trees.specs.Heaviest.{firstHeaviest}
 use Rattle.trees.specs.Result.{Result, countField, markField}
 use Rattle.trees.specs.Built.{rowLength, withBest, builtResult, builtTable}
 use Rattle.trees.specs.Rescored.{Key, keyFirst, workedOut}
-use Rattle.trees.proofs.Kind.{tableOf, value, valueIf, build, mapE}
-use Rattle.trees.proofs.Rows.{RowFacts, table-row, table-rows, mem-scored, givenOf}
-use Rattle.trees.proofs.TreeFacts.{Given}
-use Rattle.trees.proofs.TreeTest.{tree-of}
-use Rattle.trees.proofs.Marks.{marks-keep, weight-keep}
-use Rattle.trees.proofs.KeyOrder.{key-irrefl}
-use Rattle.trees.proofs.FirstHeaviest.{setKey, AllSets, set-of-scored, first-key}
-use Rattle.trees.proofs.Keys.{AtLeast, least-antisym, least-of-first, Sol, solKind}
-use Rattle.trees.proofs.Best.{Answer, row-answer}
-use Rattle.trees.proofs.Capped.{Res, encodeSol, encode, Counted, second, count-small}
-use Rattle.trees.proofs.Worked.{markIn, lengthIf, trueResult, AllCounted, worked-encode, counted-value}
-use Rattle.trees.proofs.RowLength.{length-beneath}
+use Rattle.trees.proofs.Formula.Kind.{tableOf, value, valueIf, build, mapE}
+use Rattle.trees.proofs.Formula.Rows.{RowFacts, table-row, table-rows, mem-scored, givenOf}
+use Rattle.trees.proofs.Sets.TreeFacts.{Given}
+use Rattle.trees.proofs.Joined.TreeTest.{tree-of}
+use Rattle.trees.proofs.Ties.Marks.{marks-keep, weight-keep}
+use Rattle.trees.proofs.Ties.KeyOrder.{key-irrefl}
+use Rattle.trees.proofs.Ties.FirstHeaviest.{setKey, AllSets, set-of-scored, first-key}
+use Rattle.trees.proofs.Counting.Keys.{AtLeast, least-antisym, least-of-first, Sol, solKind}
+use Rattle.trees.proofs.Counting.Best.{Answer, row-answer}
+use Rattle.trees.proofs.Counting.Capped.{Res, encodeSol, encode, Counted, second, count-small}
+use Rattle.trees.proofs.Counting.Worked.{markIn, lengthIf, trueResult, AllCounted, worked-encode, counted-value}
+use Rattle.trees.proofs.Formula.RowLength.{length-beneath}
 
 abbrev pub workedTable : Width → ℕ → List Row → List (Entry Result)
 workedTable W d rs = tableOf (workedOut W d (clustersOf rs)) rs

@@ -28,8 +28,8 @@ use Rattle.trees.specs.Rows.{Row, isScored, clustersOf, Entry, cl, sc}
 use Rattle.trees.specs.Tuple.{isTuple, tuples}
 use Rattle.trees.specs.Result.{Result, blank}
 use Rattle.trees.specs.Rescored.{keyOf, firstKey, isLive, joined, alone, workedOut, putScore, againIf, again, rescored}
-use Rattle.trees.proofs.Kind.{tableOf}
-use Rattle.trees.proofs.Tuples.{part-inside}
+use Rattle.trees.proofs.Formula.Kind.{tableOf}
+use Rattle.trees.proofs.Sets.Tuples.{part-inside}
 
 -- ---- only what lies inside counts
 

@@ -30,11 +30,11 @@ use Rattle.trees.specs.Heaviest.{weightOf, comesFirst, firstHeaviest}
 use Rattle.trees.specs.Result.{Result, countField}
 use Rattle.trees.specs.Built.{builtTable}
 use Rattle.trees.specs.Rescored.{putScore, workedOut, rescored}
-use Rattle.trees.proofs.Kind.{tableOf}
-use Rattle.trees.proofs.Rows.{RowFacts}
-use Rattle.trees.proofs.KeyOrder.{Before, before→}
-use Rattle.trees.proofs.FirstHeaviest.{setKey, comes-is-key, first-some, first-mem, first-before, first-only}
-use Rattle.trees.proofs.Capped.{past, count-small, count-large}
+use Rattle.trees.proofs.Formula.Kind.{tableOf}
+use Rattle.trees.proofs.Formula.Rows.{RowFacts}
+use Rattle.trees.proofs.Ties.KeyOrder.{Before, before→}
+use Rattle.trees.proofs.Ties.FirstHeaviest.{setKey, comes-is-key, first-some, first-mem, first-before, first-only}
+use Rattle.trees.proofs.Counting.Capped.{past, count-small, count-large}
 use Rattle.trees.proofs.Built.{sets, nonzero, worked-is-built}
 use Rattle.trees.proofs.Rescore.{put-cluster, put-clusters, others, rescore-other, rescore-is-table}
 

@@ -36,8 +36,8 @@ use Rattle.laws.proofs.Taxa.{highest-le, highest-gt}
 use Rattle.laws.proofs.Tests.{T-and, and-T, T-or, or-l, or-r, T-dec, bool-ext, eq→eqb}
 use Rattle.trees.specs.Result.{marksIn}
 use Rattle.trees.specs.Rows.{cl}
-use Rattle.trees.proofs.Families.{one}
-use Rattle.trees.proofs.Marks.{marks-none}
+use Rattle.trees.proofs.Sets.Families.{one}
+use Rattle.trees.proofs.Ties.Marks.{marks-none}
 use Rattle.kept.specs.declared.table.Table.{Table}
 use Rattle.kept.specs.View.{wordValues, entriesOf}
 use Rattle.kept.specs.Fit.{hasMark, everyMarked, isMarkedIn}

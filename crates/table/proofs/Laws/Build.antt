@@ -34,8 +34,8 @@ use Rattle.trees.specs.Rows.{Row, Entry, clustersOf, cl}
 use Rattle.trees.specs.Result.{Result, blank}
 use Rattle.trees.specs.Built.{builtTable}
 use Rattle.trees.specs.Rescored.{workedOut, againIf, again}
-use Rattle.trees.proofs.Kind.{tableOf as workedFrom}
-use Rattle.trees.proofs.Rows.{RowFacts}
+use Rattle.trees.proofs.Formula.Kind.{tableOf as workedFrom}
+use Rattle.trees.proofs.Formula.Rows.{RowFacts}
 use Rattle.trees.proofs.Built.{worked-is-built}
 use Rattle.kept.specs.declared.table.Table.{Table}
 use Rattle.kept.specs.View.{rowCap, rowAt, entryAt, tableOf}

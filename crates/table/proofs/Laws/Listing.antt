@@ -29,7 +29,7 @@ use Rattle.cluster.specs.Reading.{ruleOf}
 use Rattle.cluster.proofs.Laws.Bytes.{numberAt-lt}
 use Rattle.cluster.proofs.Laws.Rule.{Keeps, kept→keeps}
 use Rattle.trees.specs.Rows.{Row, clustersOf}
-use Rattle.trees.proofs.Rows.{RowFacts}
+use Rattle.trees.proofs.Formula.Rows.{RowFacts}
 use Rattle.kept.specs.Fit.{keepsRules}
 use Rattle.table.specs.Listing.{bytesAt, rowIn, badFrom, clustersTo, repeats, repeatFrom, rowsTo}
 use Rattle.table.specs.Changes.{firstFrom}

@@ -18,8 +18,8 @@ use Rattle.kept.specs.Rows.{hasRow}
 use Rattle.kept.specs.Arrays.{Sized}
 use Rattle.kept.proofs.Laws.Fit.{isFit→}
 use Rattle.table.specs.Rescore.{isScore}
-use Rattle.table.proofs.Laws.Rescore.{rescore-unfit, rescore-no-row, rescore-bad-score, rescore-done}
-use Rattle.table.proofs.Scored.{row-missing, row-listed, row-found, score-workable, score-done}
+use Rattle.table.proofs.Changing.Rescore.{rescore-unfit, rescore-no-row, rescore-bad-score, rescore-done}
+use Rattle.table.proofs.Changing.Scored.{row-missing, row-listed, row-found, score-workable, score-done}
 use Rattle.table.proofs.rescoring.rescore.Statement.{statement}
 use Rattle.table.proofs.rescoring.rescore.Tie as tie
 

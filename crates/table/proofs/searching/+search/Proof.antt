@@ -16,10 +16,10 @@ use Rattle.cluster.proofs.is_inside.Reads as is-inside-reads
 use Rattle.kept.specs.View.{wordValues}
 use Rattle.table.specs.declared.tally.Tally.{Tally}
 use Rattle.table.specs.Searched.{Columns, columns, Searchable}
-use Rattle.table.proofs.Readable.{LowWords}
-use Rattle.table.proofs.Searchable.{taxon-fits, start-past}
-use Rattle.table.proofs.SearchRow.{Led, Adds, whole-adds, next-place, inner-asks, under-asks, part-adds}
-use Rattle.table.proofs.Running.{Running, running-all, running-ended, running-outside, running-unscored, plus-asks, running-added}
+use Rattle.table.proofs.Tuples.Readable.{LowWords}
+use Rattle.table.proofs.Tuples.Searchable.{taxon-fits, start-past}
+use Rattle.table.proofs.Tuples.SearchRow.{Led, Adds, whole-adds, next-place, inner-asks, under-asks, part-adds}
+use Rattle.table.proofs.Tuples.Running.{Running, running-all, running-ended, running-outside, running-unscored, plus-asks, running-added}
 use Rattle.table.proofs.searching.last.Reads as last-reads
 use Rattle.table.proofs.searching.part.Reads as part-reads
 use Rattle.table.proofs.searching.search.Kinds as search-kinds

@@ -2,7 +2,7 @@
 use mathlib.Core.Path.{_∙_}
 use borrow.Author.Needs.{needs}
 use Rattle.table.specs.Searched.{Columns, columns}
-use Rattle.table.proofs.Readable.{LowWords, missing-is, other-is, unscored-is, found-is}
+use Rattle.table.proofs.Tuples.Readable.{LowWords, missing-is, other-is, unscored-is, found-is}
 use Rattle.table.proofs.searching.last.Statement.{statement}
 use Rattle.table.proofs.searching.last.Tie as tie
 

@@ -2,7 +2,7 @@
 -- aren't. The measure is how many are undecided. Assumes nothing.
 use Prim.Native.Nat.{_-_}
 use native.Mathlib.Omega.{arith}
-use Rattle.table.proofs.Laws.Searched.{Between, between-past, between-above, between-below, below-of-between}
+use Rattle.table.proofs.Tuples.Searched.{Between, between-past, between-above, between-below, below-of-between}
 use Rattle.table.proofs.searching.place_below.Statement.{statement}
 use Rattle.table.proofs.searching.place_below.Tie as tie
 

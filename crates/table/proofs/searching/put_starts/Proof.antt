@@ -3,7 +3,7 @@
 use mathlib.Core.Path.{sym, subst}
 use Prim.Native.Nat.{_-_}
 use native.Mathlib.Omega.{arith}
-use Rattle.table.proofs.Laws.Searched.{past-none, Begun, begun-none, begun-more, starts-of-begun}
+use Rattle.table.proofs.Tuples.Searched.{past-none, Begun, begun-none, begun-more, starts-of-begun}
 use Rattle.table.proofs.searching.put_starts.Statement.{statement}
 use Rattle.table.proofs.searching.put_starts.Tie as tie
 

@@ -1,7 +1,7 @@
 -- `table::tally::is_before` meets its contract: heavier, lighter, or as heavy and by the tie rule. Assumes nothing.
 use mathlib.Core.Path.{sym, _∙_}
 use borrow.Author.Needs.{needs}
-use Rattle.table.proofs.Laws.Tally.{isBefore-heavier, isBefore-lighter, isBefore-level}
+use Rattle.table.proofs.Tallies.Tally.{isBefore-heavier, isBefore-lighter, isBefore-level}
 use Rattle.table.proofs.tally.is_before.Statement.{statement}
 use Rattle.table.proofs.tally.is_before.Tie as tie
 

@@ -1,6 +1,6 @@
 -- `table::tally::is_larger` meets its contract: the high words decide, and the low ones where they are equal. Assumes nothing.
 use mathlib.Core.Path.{sym}
-use Rattle.table.proofs.Laws.Tally.{isLarger-high, isLarger-low}
+use Rattle.table.proofs.Tallies.Tally.{isLarger-high, isLarger-low}
 use Rattle.table.proofs.tally.is_larger.Statement.{statement}
 use Rattle.table.proofs.tally.is_larger.Tie as tie
 

@@ -1,7 +1,7 @@
 -- `table::tally::keeps_first` meets its contract: where one has no tree the other's best is kept, else the first one. Assumes nothing.
 use mathlib.Core.Path.{sym, _∙_}
 use borrow.Author.Needs.{needs}
-use Rattle.table.proofs.Laws.Tally.{keepsFirst-none-r, keepsFirst-none-l, keepsFirst-both}
+use Rattle.table.proofs.Tallies.Tally.{keepsFirst-none-r, keepsFirst-none-l, keepsFirst-both}
 use Rattle.table.proofs.tally.keeps_first.Statement.{statement}
 use Rattle.table.proofs.tally.keeps_first.Tie as tie
 

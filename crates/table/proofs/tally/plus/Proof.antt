@@ -1,7 +1,7 @@
 -- `table::tally::plus` meets its contract: the best of the first, or of the second, with the count of both. Assumes nothing.
 use mathlib.Core.Path.{sym, _∙_}
 use borrow.Author.Needs.{needs}
-use Rattle.table.proofs.Laws.Tally.{plusTally-first, plusTally-second}
+use Rattle.table.proofs.Tallies.Tally.{plusTally-first, plusTally-second}
 use Rattle.table.proofs.tally.plus.Statement.{statement}
 use Rattle.table.proofs.tally.plus.Tie as tie
 

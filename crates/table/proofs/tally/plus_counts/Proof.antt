@@ -1,7 +1,7 @@
 -- `table::tally::plus_counts` meets its contract: a marked count, a sum past the limit, or the sum. Assumes nothing.
 use mathlib.Core.Path.{sym}
 use borrow.Author.Needs.{needs}
-use Rattle.table.proofs.Laws.Tally.{plusCounts-marked-l, plusCounts-marked-r, plusCounts-past, plusCounts-exact}
+use Rattle.table.proofs.Tallies.Tally.{plusCounts-marked-l, plusCounts-marked-r, plusCounts-past, plusCounts-exact}
 use Rattle.table.proofs.tally.plus_counts.Statement.{statement}
 use Rattle.table.proofs.tally.plus_counts.Tie as tie
 

@@ -2,8 +2,8 @@
 use mathlib.Core.Path.{sym}
 use native.Mathlib.Omega.{arith}
 use borrow.Author.Needs.{needs}
-use Rattle.table.proofs.Laws.Tally.{timesCounts-none-l, timesCounts-none-r, timesCounts-marked-l, timesCounts-marked-r}
-use Rattle.table.proofs.Laws.Tally.{timesCounts-past, timesCounts-exact, product-le}
+use Rattle.table.proofs.Tallies.Tally.{timesCounts-none-l, timesCounts-none-r, timesCounts-marked-l, timesCounts-marked-r}
+use Rattle.table.proofs.Tallies.Tally.{timesCounts-past, timesCounts-exact, product-le}
 use Rattle.table.proofs.tally.times_counts.Statement.{statement}
 use Rattle.table.proofs.tally.times_counts.Tie as tie
 

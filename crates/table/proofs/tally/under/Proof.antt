@@ -1,6 +1,6 @@
 -- `table::tally::under` meets its contract: no tree, or the fields of both joined. Assumes nothing.
 use borrow.Author.Needs.{needs}
-use Rattle.table.proofs.Laws.Tally.{underTally-dead, underTally-live}
+use Rattle.table.proofs.Tallies.Tally.{underTally-dead, underTally-live}
 use Rattle.table.proofs.tally.under.Statement.{statement}
 use Rattle.table.proofs.tally.under.Tie as tie
 

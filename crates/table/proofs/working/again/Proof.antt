@@ -13,7 +13,7 @@ use mir.Val.{SFits}
 use Rattle.table.specs.Searched.{columnsOf}
 use Rattle.table.specs.Tally.{fieldsTally}
 use Rattle.table.specs.Working.{workedRow}
-use Rattle.table.proofs.AgainLoop.{Partly, partly-start, partly-skip, partly-store, partly-end, ready-row, weight-fits}
+use Rattle.table.proofs.Rows.AgainLoop.{Partly, partly-start, partly-skip, partly-store, partly-end, ready-row, weight-fits}
 use Rattle.table.proofs.working.again.Statement.{statement}
 use Rattle.table.proofs.working.again.Tie as tie
 

@@ -1,6 +1,6 @@
 -- `table::working::high_mark` meets its contract. Assumes nothing.
 use borrow.Author.Needs.{needs}
-use Rattle.table.proofs.Laws.Working.{high-mark-none, high-mark-shift}
+use Rattle.table.proofs.Rows.Working.{high-mark-none, high-mark-shift}
 use Rattle.table.proofs.working.high_mark.Statement.{statement}
 use Rattle.table.proofs.working.high_mark.Tie as tie
 

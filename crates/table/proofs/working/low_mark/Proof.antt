@@ -1,6 +1,6 @@
 -- `table::working::low_mark` meets its contract. Assumes nothing.
 use borrow.Author.Needs.{needs}
-use Rattle.table.proofs.Laws.Working.{low-mark-shift, low-mark-none}
+use Rattle.table.proofs.Rows.Working.{low-mark-shift, low-mark-none}
 use Rattle.table.proofs.working.low_mark.Statement.{statement}
 use Rattle.table.proofs.working.low_mark.Tie as tie
 

@@ -4,7 +4,7 @@ use mir.Syntax.{w32, w64}
 use mir.Val.{SFits}
 use mir.Facts.{toZ-ofZ, sfits-widen}
 use borrow.Author.Needs.{needs}
-use Rattle.table.proofs.Laws.Working.{own-is}
+use Rattle.table.proofs.Rows.Working.{own-is}
 use Rattle.table.proofs.working.own.Statement.{statement}
 use Rattle.table.proofs.working.own.Tie as tie
 

@@ -9,7 +9,7 @@ use mir.Syntax.{w32}
 use mir.Val.{SFits}
 use Rattle.table.specs.Searched.{Columns, columns}
 use Rattle.table.specs.Tally.{ownTally}
-use Rattle.table.proofs.WorkedRow.{searchable, worked-unscored, worked-single, worked-searched, under-fits}
+use Rattle.table.proofs.Rows.WorkedRow.{searchable, worked-unscored, worked-single, worked-searched, under-fits}
 use Rattle.table.proofs.working.worked.Statement.{statement}
 use Rattle.table.proofs.working.worked.Tie as tie
 

@@ -1,0 +1,143 @@
+-- Rows that may be read: as parts they fall, keep what sums keep, and the code's form of one is its tally. Looking a row up.
+--     scored-of-one, one-of-scored     state 1 is scored
+--     long-fewer, readable-fewer       fewer rows may be read too
+--     parts-fall               the parts fall
+--     part-keeps, parts-keep   the scored ones keep what sums keep; b is above all of them
+--     part-is                  the code's form of a scored row is the tally of one tuple
+--     LowWords                 the low words of marks are words
+--     missing-is, other-is, unscored-is, found-is     the one cover by one row: no row is as large, another one stands there, it is
+--                              unscored, or it is the cover
+-- Assumes nothing.
+use mathlib.Core.Path.{_≡_, refl, sym, ap, _∙_, subst}
+use mathlib.Core.Logic.{_≢_}
+use mathlib.Core.Bool.{Bool, cond}
+use mathlib.Core.Option.{none}
+use mathlib.Core.List.{List, map, List·Memᴰ as Mem}
+use Prim.Native.Nat.{ℕ, _≤_, _<_}
+use native.Mathlib.Decide.{decLt}
+use native.Mathlib.Nat.{le-refl}
+use native.Mathlib.Omega.{arith}
+use lib.Dec.{T, eqb→eq}
+use lib.ListN.{getD}
+use Rattle.laws.proofs.Descends.{Descends}
+use Rattle.laws.proofs.Tests.{T-true, T-false, eq→eqb}
+use Rattle.trees.specs.Rows.{scored, isScored, Entry, cl, sc}
+use Rattle.trees.proofs.Counting.Capped.{Res}
+use Rattle.trees.proofs.Searching.Search.{lookup, lookup-row, lookup-missing, search-one}
+use Rattle.kept.specs.View.{wordValues}
+use Rattle.kept.proofs.Laws.Marks.{rising-part}
+use Rattle.table.specs.Tally.{tallyOf, noTally, decoded}
+use Rattle.table.specs.Searched.{Columns, rowOf, fieldsOf, partAt, partTally, partsOf, sumKind, sumCovers}
+use Rattle.table.specs.Searched.{Below, Long, Sound, Readable}
+use Rattle.table.proofs.Tuples.Searched.{mem-parts, parts-mem, parts-descend, sumCovers-search}
+use Rattle.table.proofs.Tallies.Decoded.{decoded-keeps, fields-tally}
+use Rattle.table.proofs.Tallies.Held.{Part}
+
+pub scored-of-one : (s : ℕ) → s ≡ 1 → T (scored s)
+unfolding scored
+scored-of-one s e = eq→eqb s 1 e
+
+pub one-of-scored : (s : ℕ) → T (scored s) → s ≡ 1
+unfolding scored
+one-of-scored s h = eqb→eq s 1 h
+
+-- ---- fewer rows
+
+module _ (limit : ℕ) (k : Columns) (m n : ℕ) (h : m ≤ n) where
+  sound-fewer : (cs : List ℕ) → Sound limit k cs n → Sound limit k cs m
+  sound-fewer cs s = record {
+    one = s .one;
+    small = s .small;
+    short = s .short;
+    falls = s .falls;
+    full = s .full;
+    rising = rising-part (k .clusters) n m h (s .rising);
+    nonzero = λ i l. s .nonzero i (omega arith);
+    good = λ i l. s .good i (omega arith);
+  }
+
+  pub long-fewer : Long k n → Long k m
+  long-fewer l = record {
+    clusters = omega (arith, l .clusters);
+    states = omega (arith, l .states);
+    counts = omega (arith, l .counts);
+    marks = omega (arith, l .marks);
+    bests = omega (arith, l .bests);
+    lows = omega (arith, l .lows);
+    highs = omega (arith, l .highs);
+  }
+
+  pub readable-fewer : Readable limit k n → Readable limit k m
+  readable-fewer r = record { cs = r .cs; long = long-fewer (r .long); sound = sound-fewer (r .cs) (r .sound) }
+
+-- ---- the rows as parts
+
+-- the low words of marks are words
+abbrev pub LowWords : Columns → Type 0
+LowWords k = (i : ℕ) → getD (k .lows) i 0 < wordValues
+
+module _ (limit : ℕ) (k : Columns) (cs : List ℕ) (n : ℕ) (s : Sound limit k cs n) where
+  pub parts-fall : Descends (map cl (partsOf k n))
+  parts-fall = parts-descend k n (s .rising .up) (s .nonzero)
+
+  pub part-keeps : (b i : ℕ) → i < n → getD (k .clusters) i 0 < b → T (isScored (rowOf k i)) → Part cs b (partAt k i)
+  part-keeps b i h l t = record {
+    one = refl;
+    keeps =
+        decoded-keeps limit cs (rowOf k i) (fieldsOf k i) (s .good i h t) b (s .falls) (s .full) (λ e. omega (arith, s .nonzero i h)) l;
+  }
+
+  pub parts-keep : (b : ℕ) → ((i : ℕ) → i < n → getD (k .clusters) i 0 < b)
+      → (e : Entry Res) → Mem e (partsOf k n) → T (sc e) → Part cs b e
+  parts-keep b top e m t =
+      let q = mem-parts k n e m in
+      rw (q .2) (part-keeps b (q .0) (q .1) (top (q .0) (q .1)) (subst (λ (x : Entry Res). T (sc x)) (q .2) t))
+
+  pub part-is : LowWords k → (i : ℕ) → i < n → T (isScored (rowOf k i)) → partTally k i ≡ tallyOf limit (1, decoded (fieldsOf k i))
+  part-is w i h t =
+      fields-tally limit cs (rowOf k i) (fieldsOf k i) (s .good i h t) 1 (getD (k .lows) i 0) (getD (k .highs) i 0) (w i) refl
+
+  -- ---- the one cover by one row
+
+  module _ (R : ℕ) (p : 0 < R) where
+    one-is : sumCovers 1 R (partsOf k n) ≡ lookup sumKind R (partsOf k n)
+    one-is = sumCovers-search 1 R (partsOf k n) parts-fall p ∙ search-one sumKind R (partsOf k n)
+
+    none-is : ((i : ℕ) → i < n → getD (k .clusters) i 0 ≢ R) → noTally ≡ tallyOf limit (sumCovers 1 R (partsOf k n))
+    none-is f = ap (tallyOf limit) (sym (one-is ∙ lookup-missing sumKind R (partsOf k n) other))
+      where
+        other : (x : Entry Res) → Mem x (partsOf k n) → cl x ≢ R
+        other x m e = let q = mem-parts k n x m in f (q .0) (q .1) (sym (ap cl (q .2)) ∙ e)
+
+    -- a is the number of rows below R
+    module _ (a : ℕ) (b : Below (k .clusters) n R a) where
+      pub missing-is : n ≤ a → noTally ≡ tallyOf limit (sumCovers 1 R (partsOf k n))
+      missing-is h = none-is (λ i l e. omega (arith, b .less i (omega arith)))
+
+      module _ (h : a < n) where
+        pub other-is : getD (k .clusters) a 0 ≢ R → noTally ≡ tallyOf limit (sumCovers 1 R (partsOf k n))
+        other-is f = none-is (λ i l e. go i (decLt i a) (decLt a i) l e)
+          where
+            go : (i : ℕ) → Dec (i < a) → Dec (a < i) → i < n → getD (k .clusters) i 0 ≢ R
+            go i (yes q) d l e = omega (arith, b .less i q)
+            go i (no q) (yes g) l e = omega (arith, s .rising .up a i g l, b .more a (le-refl a) h)
+            go i (no q) (no g) l e = let m : a ≡ i = omega arith in f (ap (λ (j : ℕ). getD (k .clusters) j 0) m ∙ e)
+
+        row-is : getD (k .clusters) a 0 ≡ R
+            → sumCovers 1 R (partsOf k n) ≡ cond (sc (partAt k a)) (partAt k a .val) (sumKind .none)
+        row-is e =
+            one-is
+            ∙ subst (λ (x : ℕ). lookup sumKind x (partsOf k n) ≡ cond (sc (partAt k a)) (partAt k a .val) (sumKind .none)) e
+            (lookup-row sumKind (partsOf k n) parts-fall (partAt k a) (parts-mem k n a h))
+
+        pub unscored-is : getD (k .clusters) a 0 ≡ R → getD (k .states) a 0 ≢ 1 → noTally ≡ tallyOf limit (sumCovers 1 R (partsOf k n))
+        unscored-is e f =
+            let n = T-false (sc (partAt k a)) (λ t. f (one-of-scored (getD (k .states) a 0) t)) in
+            ap (tallyOf limit) (sym (row-is e ∙ ap (λ (t : Bool). cond t (partAt k a .val) (sumKind .none)) n))
+
+        pub found-is : LowWords k → getD (k .clusters) a 0 ≡ R → getD (k .states) a 0 ≡ 1
+            → partTally k a ≡ tallyOf limit (sumCovers 1 R (partsOf k n))
+        found-is w e f =
+            let t = scored-of-one (getD (k .states) a 0) f in
+            part-is w a h t
+            ∙ ap (tallyOf limit) (sym (row-is e ∙ ap (λ (b : Bool). cond b (partAt k a .val) (sumKind .none)) (T-true (sc (partAt k a)) t)))

@@ -1,0 +1,145 @@
+-- The loop of the search, turn by turn: what is in hand and what the i rows left add make up the sum over the covers.
+--     scan-grows               a scan loses no tuple
+--     Running                  what holds at the loop's head
+--     running-all, running-ended            at the start, and where no row left reaches the highest taxon
+--     running-outside, running-unscored     a row that adds nothing
+--     plus-asks, running-added              a row that adds something: nothing overflows, and the loop goes on
+-- Assumes nothing.
+use mathlib.Core.Path.{_≡_, sym, ap, ap₂, _∙_, subst}
+use mathlib.Core.Logic.{_≢_}
+use mathlib.Core.Bool.{Bool, true, false, cond, _&&_}
+use mathlib.Core.Option.{none}
+use mathlib.Core.List.{List, [], _∷_, map, List·Memᴰ as Mem}
+use Prim.Native.Nat.{ℕ, suc, _+_, _-_, _^_, _≤_, _<_}
+use native.Mathlib.Nat.{le-refl, le-trans}
+use native.Mathlib.Omega.{arith}
+use lib.Dec.{T}
+use lib.ListN.{getD}
+use Rattle.laws.specs.Cluster.{inside, highest}
+use Rattle.laws.proofs.Descends.{Descends}
+use Rattle.trees.specs.Rows.{Entry, cl, sc}
+use Rattle.trees.proofs.Counting.Capped.{Res, Counted}
+use Rattle.trees.proofs.Searching.Leads.{leads}
+use Rattle.trees.proofs.Counting.Worked.{counted-plus}
+use Rattle.trees.proofs.Searching.Search.{scan, gain, search-more, scan-ended, scan-cons, scan-added, scan-unscored, scan-outside, scan-low}
+use Rattle.kept.specs.View.{wordValues}
+use Rattle.table.specs.declared.tally.Tally.{Tally}
+use Rattle.table.specs.Tally.{tallyOf, noTally, plusTally}
+use Rattle.table.specs.Searched.{Columns, partAt, partsOf, sumKind, sumCovers, Searchable}
+use Rattle.table.proofs.Tuples.Searched.{mem-parts, sumCovers-search}
+use Rattle.table.proofs.Tallies.Counts.{tally-tuples, tally-count-le}
+use Rattle.table.proofs.Tallies.Encoded.{tally-plus}
+use Rattle.table.proofs.Tuples.Readable.{one-of-scored}
+use Rattle.table.proofs.Tuples.Searchable.{taxon-fits, searched-fall, searched-few}
+use Rattle.table.proofs.Tuples.SearchRow.{Adds}
+
+scan-grows : (f : Entry Res → Res) (R : ℕ) (es : List (Entry Res)) (s : Res) → s .0 ≤ scan sumKind f R es s .0
+scan-grows f R [] s = rw (scan-ended sumKind f R s) (le-refl (s .0))
+scan-grows f R (e ∷ es) s =
+    rw (scan-cons sumKind f R e es s)
+    (le-trans (go (sc e && leads (cl e) R)) (scan-grows f R es (cond (sc e && leads (cl e) R) (sumKind .plus s (f e)) s)))
+  where
+    go : (b : Bool) → s .0 ≤ cond b (sumKind .plus s (f e)) s .0
+    go true = omega arith
+    go false = le-refl (s .0)
+
+-- what a row adds, out of the first `end` rows
+abbrev adds : Columns → ℕ → ℕ → ℕ → Entry Res → Res
+adds k end R left = gain sumKind (left - 1) R (partsOf k end)
+
+pub record Running (limit : ℕ) (k : Columns) (starts : List ℕ) (end R left start : ℕ) (sum : Tally) (i : ℕ) : Type 0 where
+  pub within : i ≤ end
+  pub begins : start ≡ getD starts (highest R) 0
+  pub x : Res
+  pub told : sum ≡ tallyOf limit x
+  pub counted : Counted (x .1)
+  pub left-over : scan sumKind (adds k end R left) R (partsOf k i) x ≡ sumCovers left R (partsOf k end)
+
+module _ (limit : ℕ) (k : Columns) (starts : List ℕ) (end R left : ℕ) (s : Searchable limit k starts end R) (start : ℕ) where
+  abbrev Run : Tally → ℕ → Type 0
+  Run sum i = Running limit k starts end R left start sum i
+
+  abbrev f : Entry Res → Res
+  f = adds k end R left
+
+  pub running-all : 2 ≤ left → start ≡ getD starts (highest R) 0 → (sum : Tally) → sum ≡ noTally → Run sum end
+  running-all two e sum z = record {
+    within = le-refl end;
+    begins = e;
+    x = (0, none);
+    told = z;
+    counted = tt;
+    left-over = sym (sumCovers-search left R (partsOf k end) fall (s .some) ∙ search-more sumKind left R (partsOf k end) two);
+  }
+    where
+      fall : Descends (map cl (partsOf k end))
+      fall = searched-fall limit k starts end R s
+
+  module _ (sum : Tally) (i : ℕ) (r : Run sum i) where
+    pub running-ended : i ≤ start → sum ≡ tallyOf limit (sumCovers left R (partsOf k end))
+    running-ended h = r .told ∙ ap (tallyOf limit) (sym (scan-low sumKind f R (partsOf k i) (r .x) (s .some) low) ∙ r .left-over)
+      where
+        low : (e : Entry Res) → Mem e (partsOf k i) → cl e < 2 ^ highest R
+        low e m =
+            let q = mem-parts k i e m in
+            let b = s .begins .each (highest R) (omega (arith, taxon-fits limit k starts end R s)) in
+            omega (arith, ap cl (q .2), b .less (q .0) (omega (arith, q .1, r .begins)))
+
+    -- ---- the next row
+
+    module _ (some-left : start < i) where
+      abbrev e : Entry Res
+      e = partAt k (i - 1)
+
+      -- what is in hand after the row is y, and the rows beneath add the rest to it
+      left-after : (y : Res) → scan sumKind f R (e ∷ partsOf k (i - 1)) (r .x) ≡ scan sumKind f R (partsOf k (i - 1)) y
+          → scan sumKind f R (partsOf k (i - 1)) y ≡ sumCovers left R (partsOf k end)
+      left-after y h =
+          let split : suc (i - 1) ≡ i = omega arith in
+          sym h ∙ ap (λ (n : ℕ). scan sumKind f R (partsOf k n) (r .x)) split ∙ r .left-over
+
+      after : (y : Res) (t : Tally) → t ≡ tallyOf limit y → Counted (y .1)
+          → scan sumKind f R (e ∷ partsOf k (i - 1)) (r .x) ≡ scan sumKind f R (partsOf k (i - 1)) y → Run t (i - 1)
+      after y t q c h = record {
+        within = omega (arith, r .within);
+        begins = r .begins;
+        x = y;
+        told = q;
+        counted = c;
+        left-over = left-after y h;
+      }
+
+      pub running-outside : inside (getD (k .clusters) (i - 1) 0) R ≡ false → Run sum (i - 1)
+      running-outside h =
+          after (r .x) sum (r .told) (r .counted) (scan-outside sumKind f R e (partsOf k (i - 1)) (r .x) (λ t. subst T h t))
+
+      pub running-unscored : getD (k .states) (i - 1) 0 ≢ 1 → Run sum (i - 1)
+      running-unscored h =
+          after (r .x) sum (r .told) (r .counted)
+          (scan-unscored sumKind f R e (partsOf k (i - 1)) (r .x) (λ t. h (one-of-scored (getD (k .states) (i - 1) 0) t)))
+
+      module _ (t : Tally) (a : Adds limit k end R left (i - 1) t) where
+        abbrev z : Res
+        z = sumKind .plus (r .x) (a .g)
+
+        more : scan sumKind f R (e ∷ partsOf k (i - 1)) (r .x) ≡ scan sumKind f R (partsOf k (i - 1)) z
+        more =
+            scan-added sumKind f R e (partsOf k (i - 1)) (r .x) (a .scored) (a .leads)
+            ∙ ap (λ (y : Res). scan sumKind f R (partsOf k (i - 1)) (sumKind .plus (r .x) y)) (a .gains)
+
+        pub plus-asks : left ≤ 4 → (t .count ≤ limit) × (sum .tuples + t .tuples < wordValues)
+        plus-asks h =
+            let in-hand = ap (λ (v : Tally). v .tuples) (r .told) ∙ tally-tuples limit (r .x .0) (r .x .1) in
+            let onto = ap (λ (v : Tally). v .tuples) (a .told) ∙ tally-tuples limit (a .g .0) (a .g .1) in
+            let whole = searched-few limit k starts end R s left h in
+            let grown = subst (λ (v : Res). z .0 ≤ v .0) (left-after z more) (scan-grows f R (partsOf k (i - 1)) z) in
+            let count = subst (λ (v : Tally). v .count ≤ limit) (sym (a .told)) (tally-count-le limit (a .g)) in
+            (count, omega (arith, in-hand, onto, whole, grown))
+
+        pub running-added : (v : Tally) → v ≡ plusTally limit sum t → Run v (i - 1)
+        running-added v d =
+            after z v (d ∙ ap₂ (plusTally limit) (r .told) (a .told) ∙ plus)
+            (counted-plus (r .x .1) (a .g .1) (r .counted) (a .counted)) more
+          where
+            plus : plusTally limit (tallyOf limit (r .x)) (tallyOf limit (a .g)) ≡ tallyOf limit z
+            plus = tally-plus limit (s .readable .sound .one) (r .x) (a .g) (r .counted) (a .counted)

@@ -1,0 +1,76 @@
+-- Rows that fall: the largest cluster first, none twice, none empty, all within the width.
+--     RowFacts w rs          what holds of the rows of any accepted list of w taxa
+--     facts-tail             and of its smaller rows
+--     above-rest             the first row is above the others
+--     table-rows, table-row, row-table, table-clusters   the rows of a table, by any row formula, are the rows it was made of
+--     scored-mem, mem-scored     the clusters of the scored rows
+--     scored-once            none of them twice
+--     givenOf                the question about trees that rows ask
+-- Assumes nothing.
+use mathlib.Core.Path.{_≡_, refl, sym, ap, _∙_, subst}
+use mathlib.Core.Logic.{_≢_}
+use mathlib.Core.List.{List, [], _∷_, map, Memᴰ·map, Memᴰ·of-map}
+use mathlib.Core.List.{List·Memᴰ as Mem, List·Memᴰ·head as here, List·Memᴰ·tail as there, List·Memᴰ·not-nil as mem-nil}
+use Prim.Native.Nat.{ℕ, _^_, _<_}
+use lib.Dec.{T}
+use Rattle.laws.specs.Lists.{keep, Once}
+use Rattle.laws.proofs.Falling.{Falling, falling-once}
+use Rattle.laws.proofs.Keep.{mem-keep, mem-of-keep}
+use Rattle.laws.proofs.Once.{once-map-keep}
+use Rattle.trees.specs.Rows.{Row, isScored, clustersOf, scoredIn, Entry, cl}
+use Rattle.trees.proofs.Formula.Kind.{tableOf}
+use Rattle.trees.proofs.Sets.TreeFacts.{Given}
+
+pub record RowFacts (w : ℕ) (rs : List Row) : Type 0 where
+  pub falls : Falling (clustersOf rs)
+  pub fits : (r : Row) → Mem r rs → (r .cluster ≢ 0) × (r .cluster < 2 ^ w)
+
+pub facts-tail : (w : ℕ) (r : Row) (rs : List Row) → RowFacts w (r ∷ rs) → RowFacts w rs
+facts-tail w r rs f = record { falls = f .falls .1; fits = λ q m. f .fits q (there m) }
+
+-- the first row is above the others
+pub above-rest : (w : ℕ) (r : Row) (rs : List Row) → RowFacts w (r ∷ rs) → (q : Row) → Mem q rs → q .cluster < r .cluster
+above-rest w r rs f q m = f .falls .0 (q .cluster) (Memᴰ·map (λ (x : Row). x .cluster) m)
+
+-- ---- the rows of a table
+
+module _ {A : Type 0} (F : Row → List (Entry A) → A) where
+  pub table-row : (rs : List Row) (e : Entry A) → Mem e (tableOf F rs) → Mem (e .row) rs
+  table-row [] e m = absurd (mem-nil m)
+  table-row (r ∷ rs) e (here q) = here (ap (λ (x : Entry A). x .row) q)
+  table-row (r ∷ rs) e (there m) = there (table-row rs e m)
+
+  pub row-table : (rs : List Row) (r : Row) → Mem r rs → (e : Entry A) × Mem e (tableOf F rs) × (e .row ≡ r)
+  row-table (q ∷ rs) r (here p) = (record { row = q; val = F q (tableOf F rs) }, here refl, sym p)
+  row-table (q ∷ rs) r (there m) = let x = row-table rs r m in (x .0, there (x .1), x .2)
+
+  pub table-rows : (rs : List Row) → map (λ (e : Entry A). e .row) (tableOf F rs) ≡ rs
+  table-rows [] = refl
+  table-rows (r ∷ rs) = ap (λ (qs : List Row). r ∷ qs) (table-rows rs)
+
+  pub table-clusters : (rs : List Row) → map cl (tableOf F rs) ≡ clustersOf rs
+  table-clusters [] = refl
+  table-clusters (r ∷ rs) = ap (λ (cs : List ℕ). r .cluster ∷ cs) (table-clusters rs)
+
+-- ---- the scored clusters
+
+pub scored-mem : (rs : List Row) (r : Row) → Mem r rs → T (isScored r) → Mem (r .cluster) (scoredIn rs)
+scored-mem rs r m s = Memᴰ·map (λ (x : Row). x .cluster) (mem-keep isScored rs m s)
+
+pub mem-scored : (rs : List Row) (c : ℕ) → Mem c (scoredIn rs) → (r : Row) × Mem r rs × T (isScored r) × (r .cluster ≡ c)
+mem-scored rs c m =
+    let q = Memᴰ·of-map (λ (x : Row). x .cluster) (keep isScored rs) m in
+    let k = mem-of-keep isScored rs (q .1) in
+    (q .0, k .0, k .1, q .2)
+
+pub scored-once : (w : ℕ) (rs : List Row) → RowFacts w rs → Once (scoredIn rs)
+scored-once w rs f = once-map-keep (λ (x : Row). x .cluster) isScored rs (falling-once (clustersOf rs) (f .falls))
+
+abbrev pub givenOf : (w d : ℕ) (rs : List Row) → RowFacts w rs → Given
+givenOf w d rs f = record { width = w; degree = d; listed = scoredIn rs; sound = sound; once = scored-once w rs f }
+  where
+    sound : (c : ℕ) → Mem c (scoredIn rs) → (c ≢ 0) × (c < 2 ^ w)
+    sound c m =
+        let q = mem-scored rs c m in
+        let h = f .fits (q .0) (q .1) in
+        (λ e. h .0 (q .3 ∙ e), subst (λ (x : ℕ). x < 2 ^ w) (q .3) (h .1))
