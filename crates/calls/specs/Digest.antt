@@ -14,7 +14,7 @@ use lib.ListN.{length, getD}
 use mir.Syntax.{w64}
 use mir.Val.{ofZ}
 use Rattle.kept.specs.declared.table.Table.{Table}
-use Rattle.kept.specs.View.{rowCap, wordValues}
+use Rattle.laws.specs.Limits.{rowCap, wordValues}
 use Rattle.table.specs.Rescore.{rescoreTable}
 
 abbrev pub wrap : ℕ → ℕ → ℕ

@@ -8,7 +8,7 @@ use table::rescore;
 ghost use mathlib.Core.Path.{_≡_};
 ghost use mir.Syntax.{w64};
 ghost use mir.Val.{ofZ};
-ghost use Rattle.kept.specs.View.{rowCap};
+ghost use Rattle.laws.specs.Limits.{rowCap};
 ghost use Rattle.table.specs.Build.{buildTable};
 ghost use Rattle.calls.specs.Digest.{rowDigest, results, Long, digestTo, digest, rescoredTimes};
 

@@ -11,7 +11,7 @@ use mathlib.Core.List.{List, []}
 use Prim.Native.Nat.{ℕ}
 use Rattle.cluster.specs.declared.refusal.Refusal.the-variants.{NoTree}
 use Rattle.cluster.specs.Writing.{Wrote}
-use Rattle.trees.specs.Rows.{Row}
+use Rattle.laws.specs.Row.{Row}
 use Rattle.trees.specs.Heaviest.{firstHeaviest}
 use Rattle.shapes.specs.Drawn.{ascending, textOf}
 use Rattle.kept.specs.declared.table.Table.{Table}

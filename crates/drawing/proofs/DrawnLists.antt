@@ -12,7 +12,7 @@ use Prim.Native.Nat.{ℕ, _<_}
 use lib.ListN.{getD}
 use Rattle.cluster.specs.declared.refusal.Refusal.the-variants.{NoTree}
 use Rattle.cluster.specs.Bytes.{byteValues}
-use Rattle.trees.specs.Rows.{Row}
+use Rattle.laws.specs.Row.{Row}
 use Rattle.trees.specs.Heaviest.{firstHeaviest}
 use Rattle.shapes.specs.Drawn.{ascending, textOf}
 use Rattle.kept.specs.declared.table.Table.{Table}

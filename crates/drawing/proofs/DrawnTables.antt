@@ -20,13 +20,13 @@ use native.Mathlib.Omega.{arith}
 use lib.Dec.{leb, le→leb, lit≤}
 use lib.ListN.{length, drop}
 use Rattle.laws.specs.Limits.{narrow}
+use Rattle.laws.specs.Row.{Row}
 use Rattle.laws.proofs.Tests.{T-true, T-false, cond-true}
 use Rattle.cluster.specs.declared.refusal.Answer.the-variants.{Done, Refused}
 use Rattle.cluster.specs.declared.refusal.Refusal.{Refusal}
 use Rattle.cluster.specs.declared.refusal.Refusal.the-variants.{NoTree, Unfit}
 use Rattle.cluster.specs.Refusal.{numberOf}
 use Rattle.cluster.specs.Writing.{Wrote, wroteOf}
-use Rattle.trees.specs.Rows.{Row}
 use Rattle.trees.specs.Heaviest.{firstHeaviest}
 use Rattle.trees.proofs.Formula.Rows.{givenOf}
 use Rattle.trees.proofs.Theorems.{none-iff}

@@ -22,12 +22,13 @@ use native.Mathlib.Omega.{arith}
 use lib.Dec.{T, ltb, ltb→lt, lt→ltb, lit≤}
 use lib.ListN.{length, length-map}
 use Rattle.laws.specs.Cluster.{unionOf}
-use Rattle.laws.specs.Limits.{narrow}
+use Rattle.laws.specs.Limits.{narrow, rowCap}
 use Rattle.laws.specs.Lists.{elem}
+use Rattle.laws.specs.Row.{Row}
 use Rattle.laws.proofs.Appended.{map-through}
 use Rattle.laws.proofs.Keep.{elem→, →elem, nil-of-none}
 use Rattle.laws.proofs.Tests.{true-T}
-use Rattle.trees.specs.Rows.{Row, clustersOf, scoredIn, Entry, cl}
+use Rattle.trees.specs.Rows.{clustersOf, scoredIn, Entry, cl}
 use Rattle.trees.specs.Tree.{treesOn}
 use Rattle.trees.specs.Heaviest.{firstHeaviest}
 use Rattle.trees.specs.Result.{Result, countField}
@@ -36,7 +37,7 @@ use Rattle.trees.proofs.Formula.Rows.{givenOf, mem-scored}
 use Rattle.trees.proofs.Theorems.{count-iff}
 use Rattle.trees.proofs.Joined.TreeTest.{tree-of}
 use Rattle.kept.specs.declared.table.Table.{Table}
-use Rattle.kept.specs.View.{rowCap, resultAt, entryAt, entriesOf, tableOf}
+use Rattle.kept.specs.View.{resultAt, entryAt, entriesOf, tableOf}
 use Rattle.kept.specs.Rows.{shownRows, unionTo, leafSet}
 use Rattle.kept.specs.Arrays.{clustersDown, Rising}
 use Rattle.kept.proofs.Laws.Column.{mem-entries}

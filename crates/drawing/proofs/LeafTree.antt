@@ -20,12 +20,14 @@ use lib.IntN.{ℤ}
 use lib.ListN.{getD}
 use lib.Signed.{ltZ}
 use Rattle.laws.specs.Limits.{narrow}
-use Rattle.laws.specs.Lists.{keep, elem, sublists}
-use Rattle.laws.proofs.Falling.{Falling, in-turn-keep, falling-once, sublist-is-elem}
+use Rattle.laws.specs.Lists.{keep, elem, sublists, Falling}
+use Rattle.laws.specs.State.{scored}
+use Rattle.laws.specs.Row.{Row}
+use Rattle.laws.proofs.Falling.{in-turn-keep, falling-once, sublist-is-elem}
 use Rattle.laws.proofs.Integers.{ltZ-irrefl}
 use Rattle.laws.proofs.Once.{map-inj}
 use Rattle.laws.proofs.Tests.{and-T, T-true, true-T}
-use Rattle.trees.specs.Rows.{Row, scored, clustersOf, scoredIn, Entry, cl}
+use Rattle.trees.specs.Rows.{clustersOf, scoredIn, Entry, cl}
 use Rattle.trees.specs.Tree.{isTree}
 use Rattle.trees.specs.Heaviest.{weightOf, firstHeaviest}
 use Rattle.trees.specs.Result.{Result, marksOf}

@@ -15,8 +15,9 @@ use lib.Dec.{T, not-T}
 use lib.IntN.{ℤ, pos, _+ℤ_, +ℤ-comm, +ℤ-idr}
 use lib.ListN.{getD}
 use Rattle.laws.specs.Lists.{keepIf, keep}
+use Rattle.laws.specs.State.{scored}
 use Rattle.laws.proofs.Tests.{and-T, or-l, or-r, T-dec}
-use Rattle.trees.specs.Rows.{scored, Entry}
+use Rattle.trees.specs.Rows.{Entry}
 use Rattle.trees.specs.Heaviest.{weightIn}
 use Rattle.trees.specs.Result.{Result, marksIn}
 use Rattle.trees.proofs.Ties.Marks.{marks-lt, marks-inj}

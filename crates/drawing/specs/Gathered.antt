@@ -13,7 +13,7 @@ use mathlib.Core.Path.{_≡_}
 use Prim.Native.Nat.{ℕ, _+_, _-_, _^_, _≤_, _<_}
 use lib.Dec.{eqb}
 use lib.ListN.{length, replicate}
-use Rattle.laws.specs.Limits.{narrow}
+use Rattle.laws.specs.Limits.{narrow, rowCap}
 use Rattle.laws.specs.Lists.{elem, Once}
 use Rattle.cluster.specs.declared.refusal.Answer.{Answer}
 use Rattle.cluster.specs.declared.refusal.Answer.the-variants.{Done, Refused}
@@ -21,7 +21,6 @@ use Rattle.cluster.specs.declared.refusal.Refusal.{Refusal}
 use Rattle.trees.specs.Tree.{isTree}
 use Rattle.shapes.specs.Text.{comma}
 use Rattle.shapes.specs.Parts.{partBytes}
-use Rattle.kept.specs.View.{rowCap}
 use Rattle.drawing.specs.declared.marks.Members.{Members}
 
 abbrev pub textCap : ℕ

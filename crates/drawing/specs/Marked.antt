@@ -8,7 +8,7 @@ use mathlib.Core.List.{List, [], _∷_, _++_}
 use Prim.Native.Nat.{ℕ, zero, suc}
 use lib.IntN.{ℤ, pos, _+ℤ_}
 use lib.ListN.{getD}
-use Rattle.trees.specs.Rows.{scored}
+use Rattle.laws.specs.State.{scored}
 use Rattle.kept.specs.Fit.{hasMark}
 
 abbrev pub membersTo : List ℕ → ℕ → ℕ → List ℕ

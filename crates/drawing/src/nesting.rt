@@ -15,7 +15,7 @@ ghost use lib.Dec.{leb};
 ghost use lib.ListN.{length};
 ghost use Rattle.laws.specs.Cluster.{inside, strict, nested, single, taxa};
 ghost use Rattle.laws.specs.Limits.{narrow};
-ghost use Rattle.laws.specs.Lists.{every, some, elem};
+ghost use Rattle.laws.specs.Lists.{every, any, elem};
 ghost use Rattle.trees.specs.Tree.{children, isTree};
 
 // Taxa that a cluster of this width can have.
@@ -109,7 +109,7 @@ fn are_nested(xs: &[u64], c: u64) -> bool
 
 // Whether one of them lies strictly between `k` and `m`.
 fn has_between(xs: &[u64], k: u64, m: u64) -> bool
-    ensures { λ r. ⌜ r ≡ some (λ l. strict l m && strict k l) (now (xs .entry)) ⌝ }
+    ensures { λ r. ⌜ r ≡ any (λ l. strict l m && strict k l) (now (xs .entry)) ⌝ }
 {
     let mut i = 0;
     while i < xs.len() {

@@ -15,9 +15,10 @@ use lib.Dec.{T, eqb, eqb→eq, eqb-refl, T-not}
 use lib.IntN.{ℤ}
 use lib.Signed.{ltZ}
 use Rattle.laws.specs.Lists.{elem}
+use Rattle.laws.specs.Row.{Row}
 use Rattle.laws.proofs.Integers.{Tri, tri}
 use Rattle.laws.proofs.Tests.{T-and, and-T}
-use Rattle.trees.specs.Rows.{Row, Entry}
+use Rattle.trees.specs.Rows.{Entry}
 use Rattle.trees.specs.Result.{Result}
 use Rattle.kept.specs.declared.table.Table.{Table}
 use Rattle.kept.specs.View.{rowAt, entryAt}

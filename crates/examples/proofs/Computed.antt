@@ -20,13 +20,13 @@ use lib.Count.{ones, onesIn, trailingZeros}
 use lib.Dec.{eqb, ltb}
 use Rattle.laws.specs.Cluster.{inside, apart, single}
 use Rattle.laws.specs.Lists.{every}
+use Rattle.laws.specs.State.{scored}
 use Rattle.cluster.specs.declared.record.Record.{Record}
 use Rattle.cluster.specs.declared.refusal.Refusal.{Refusal}
 use Rattle.cluster.specs.declared.refusal.Refusal.the-variants.{NoTree}
 use Rattle.cluster.specs.Bytes.{byteValues}
 use Rattle.cluster.specs.Refusal.{numberOf}
 use Rattle.cluster.specs.Rule.{brokenRule}
-use Rattle.trees.specs.Rows.{scored}
 use Rattle.trees.specs.Tree.{isTree}
 use Rattle.shapes.specs.Decimal.{figures}
 use Rattle.shapes.specs.Drawn.{shapeOf, textOf}

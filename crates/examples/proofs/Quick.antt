@@ -15,13 +15,14 @@ use lib.ListN.{length}
 use Rattle.laws.specs.Cluster.{single}
 use Rattle.laws.specs.Limits.{Width, narrow}
 use Rattle.laws.specs.Lists.{keep}
+use Rattle.laws.specs.Row.{Row, isScored}
 use Rattle.laws.proofs.Keep.{mem-of-keep}
-use Rattle.trees.specs.Rows.{Row, isScored, clustersOf, Entry, cl, sc}
+use Rattle.trees.specs.Rows.{clustersOf, Entry, cl, sc, RowFacts}
 use Rattle.trees.specs.Result.{Result, blank}
 use Rattle.trees.specs.Built.{builtTable}
 use Rattle.trees.specs.Rescored.{Beneath, keyOf, isLive, firstKey, joined, alone, workedOut}
-use Rattle.trees.proofs.Formula.Kind.{tableOf}
-use Rattle.trees.proofs.Formula.Rows.{RowFacts, facts-tail, above-rest, table-row}
+use Rattle.trees.specs.Kind.{workedFrom}
+use Rattle.trees.proofs.Formula.Rows.{facts-tail, above-rest, table-row}
 use Rattle.trees.proofs.Searching.Covers.{chosen, chosen-is, tuples-are-covers}
 use Rattle.trees.proofs.Built.{worked-is-built}
 
@@ -35,7 +36,7 @@ abbrev pub quickRow : Width → ℕ → List ℕ → Row → List Beneath → Re
 quickRow W d cs r t = rowBy W cs r (chosen (d - 1) (r .cluster) (keep sc t))
 
 abbrev pub quickRows : ℕ → List Row → List (Entry Result)
-quickRows d rs = tableOf (quickRow narrow d (clustersOf rs)) rs
+quickRows d rs = workedFrom (quickRow narrow d (clustersOf rs)) rs
 
 quick-row : (W : Width) (d : ℕ) (cs : List ℕ) (r : Row) (t : List Beneath) → 0 < r .cluster
     → ((x : Beneath) → Mem x t → cl x < r .cluster) → quickRow W d cs r t ≡ workedOut W d cs r t
@@ -45,14 +46,14 @@ quick-row W d cs r t p f =
     ∙ sym (tuples-are-covers d (r .cluster) (keep sc t) p (λ x m. f x (mem-of-keep sc t m .0))))
 
 module _ (w d : ℕ) (cs : List ℕ) where
-  quick-rows : (rs : List Row) → RowFacts w rs → tableOf (quickRow narrow d cs) rs ≡ tableOf (workedOut narrow d cs) rs
+  quick-rows : (rs : List Row) → RowFacts w rs → workedFrom (quickRow narrow d cs) rs ≡ workedFrom (workedOut narrow d cs) rs
   quick-rows [] f = refl
   quick-rows (r ∷ rs) f =
       ap (λ (t : List Beneath). record { row = r; val = quickRow narrow d cs r t } ∷ t) (quick-rows rs (facts-tail w r rs f))
       ∙ ap (λ (v : Result). record { row = r; val = v } ∷ worked) (quick-row narrow d cs r worked (filled (f .fits r (here refl) .0)) below)
     where
       worked : List Beneath
-      worked = tableOf (workedOut narrow d cs) rs
+      worked = workedFrom (workedOut narrow d cs) rs
 
       filled : (r .cluster ≡ 0 → ⊥) → 0 < r .cluster
       filled n = omega arith

@@ -9,7 +9,7 @@ use mathlib.Core.List.{List, [], _∷_}
 use Prim.Native.Nat.{ℕ, zero, suc, _≤_, _<_}
 use lib.ListN.{length, getD}
 use Rattle.kept.specs.declared.table.Table.{Table}
-use Rattle.kept.specs.View.{rowCap}
+use Rattle.laws.specs.Limits.{rowCap}
 
 module _ {A : Type 0} where
   abbrev pub through : (ℕ → A) → List ℕ → ℕ → List A

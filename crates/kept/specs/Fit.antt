@@ -17,12 +17,13 @@ use lib.Dec.{eqb, leb, ltb}
 use lib.IntN.{ℤ, natAbs}
 use lib.ListN.{length}
 use Rattle.laws.specs.Cluster.{inside, size, single}
-use Rattle.laws.specs.Limits.{Width, narrow, weightMax, degreeLow, degreeHigh}
+use Rattle.laws.specs.Limits.{Width, narrow, weightMax, degreeLow, degreeHigh, rowCap}
+use Rattle.laws.specs.Row.{Row, isScored}
 use Rattle.cluster.specs.Rule.{brokenRule, isKept}
-use Rattle.trees.specs.Rows.{Row, isScored, Entry, cl}
+use Rattle.trees.specs.Rows.{Entry, cl}
 use Rattle.trees.specs.Result.{Result}
 use Rattle.kept.specs.declared.table.Table.{Table}
-use Rattle.kept.specs.View.{rowCap, entryAt, entriesOf}
+use Rattle.kept.specs.View.{entryAt, entriesOf}
 
 abbrev pub isZero : ℤ → Bool
 isZero z = eqb (natAbs z) 0

@@ -16,12 +16,13 @@ use lib.Dec.{eqb, leb, ltb}
 use lib.IntN.{ℤ, natAbs}
 use lib.ListN.{getD}
 use Rattle.laws.specs.Cluster.{inside, single}
-use Rattle.laws.specs.Limits.{Width, narrow, weightMax}
-use Rattle.trees.specs.Rows.{Row, Entry}
+use Rattle.laws.specs.Limits.{Width, narrow, weightMax, rowCap, wordValues}
+use Rattle.laws.specs.Row.{Row}
+use Rattle.trees.specs.Rows.{Entry}
 use Rattle.trees.specs.Result.{Result}
 use Rattle.kept.specs.declared.fitness.Fields.{Fields}
 use Rattle.kept.specs.declared.table.Table.{Table}
-use Rattle.kept.specs.View.{rowCap, wordValues, entryAt}
+use Rattle.kept.specs.View.{entryAt}
 use Rattle.kept.specs.Fit.{isZero, hasMark, isEmpty, fitEntry}
 use Rattle.kept.specs.Arrays.{clustersDown, Rising}
 

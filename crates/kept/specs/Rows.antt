@@ -13,9 +13,10 @@ use lib.Bits.{bitOr}
 use lib.Dec.{eqb}
 use lib.ListN.{getD}
 use Rattle.laws.specs.Lists.{elem}
+use Rattle.laws.specs.Limits.{rowCap}
 use Rattle.trees.specs.Rows.{cl}
 use Rattle.kept.specs.declared.table.Table.{Table}
-use Rattle.kept.specs.View.{rowCap, entriesOf}
+use Rattle.kept.specs.View.{entriesOf}
 
 abbrev pub shownRows : Table → ℕ
 shownRows t = min (t .rows) rowCap

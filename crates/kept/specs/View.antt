@@ -1,5 +1,4 @@
 -- The table as rows with their results, and rows with their results as a table (document 01, "The table"). Laws: `proofs/Laws/View.antt`.
---     rowCap, wordValues       room for 128 rows; how many values a word of marks has
 --     rowAt, resultAt, entryAt row i of a table: what was listed, what was worked out, both
 --     entriesOf t n            the first n rows, the largest cluster first
 --     tableOf d es             the table with degree bound d and the rows es: ascending, and all zero past them
@@ -9,17 +8,11 @@ use mathlib.Core.List.{List, [], _∷_, _++_, map, reverse}
 use Prim.Native.Nat.{ℕ, zero, suc, _+_, _-_, _*_, _/_, _%_}
 use lib.IntN.{pos}
 use lib.ListN.{getD, length, replicate}
-use Rattle.laws.specs.Limits.{narrow}
-use Rattle.trees.specs.Rows.{Row, Entry}
+use Rattle.laws.specs.Limits.{rowCap, wordValues}
+use Rattle.laws.specs.Row.{Row}
+use Rattle.trees.specs.Rows.{Entry}
 use Rattle.trees.specs.Result.{Result}
 use Rattle.kept.specs.declared.table.Table.{Table}
-
-abbrev pub rowCap : ℕ
-rowCap = narrow .rows
-
--- 2 ^ 64
-abbrev pub wordValues : ℕ
-wordValues = 18446744073709551616
 
 abbrev pub rowAt : Table → ℕ → Row
 rowAt t i = record { cluster = getD (t .clusters) i 0; weight = getD (t .weights) i (pos 0); state = getD (t .states) i 0 }

@@ -4,16 +4,16 @@
 --     map-reverse                    the images of a list backward
 --     mem-reverse, mem-of-reverse    it has the same elements
 --     once-reverse                   and none of them twice where the list has none twice
---     every-reverse, some-reverse, keep-reverse     the same tests pass, and a filter leaves the same backward
+--     every-reverse, any-reverse, keep-reverse     the same tests pass, and a filter leaves the same backward
 -- Assumes nothing.
 use mathlib.Core.Path.{_≡_, refl, sym, ap, _∙_, subst, fun-ext}
 use mathlib.Core.Bool.{Bool, true, false}
 use mathlib.Core.List.{List, [], _∷_, _++_, map, map-map, append-assoc, append-nil, reverse, reverseAux, reverse-cons, reverse-reverse}
 use mathlib.Core.List.{List·Memᴰ as Mem, List·Memᴰ·head as here, List·Memᴰ·tail as there, List·Memᴰ·not-nil as mem-nil}
 use lib.Dec.{T}
-use Rattle.laws.specs.Lists.{keepIf, keep, every, some, bind, Once}
+use Rattle.laws.specs.Lists.{keepIf, keep, every, any, bind, Once}
 use Rattle.laws.proofs.Tests.{bool-ext}
-use Rattle.laws.proofs.Keep.{every→, →every, some→, →some, keep-append}
+use Rattle.laws.proofs.Keep.{every→, →every, any→, →any, keep-append}
 use Rattle.laws.proofs.Once.{once-append}
 
 module _ {A B C : Type 0} where
@@ -66,14 +66,14 @@ module _ {A : Type 0} (p : A → Bool) (l : List A) where
       bool-ext (every p (reverse l)) (every p l) (λ h. →every p l (λ x m. every→ p (reverse l) h x (mem-reverse l m)))
       (λ h. →every p (reverse l) (λ x m. every→ p l h x (mem-of-reverse l m)))
 
-  pub some-reverse : some p (reverse l) ≡ some p l
-  some-reverse = bool-ext (some p (reverse l)) (some p l) to from
+  pub any-reverse : any p (reverse l) ≡ any p l
+  any-reverse = bool-ext (any p (reverse l)) (any p l) to from
     where
-      to : T (some p (reverse l)) → T (some p l)
-      to h = let q = some→ p (reverse l) h in →some p l (mem-of-reverse l (q .1)) (q .2)
+      to : T (any p (reverse l)) → T (any p l)
+      to h = let q = any→ p (reverse l) h in →any p l (mem-of-reverse l (q .1)) (q .2)
 
-      from : T (some p l) → T (some p (reverse l))
-      from h = let q = some→ p l h in →some p (reverse l) (mem-reverse l (q .1)) (q .2)
+      from : T (any p l) → T (any p (reverse l))
+      from h = let q = any→ p l h in →any p (reverse l) (mem-reverse l (q .1)) (q .2)
 
 module _ {A : Type 0} (p : A → Bool) where
   pub keep-reverse : (l : List A) → keep p (reverse l) ≡ reverse (keep p l)

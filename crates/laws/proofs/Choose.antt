@@ -1,7 +1,5 @@
 -- How many sublists have a given number of elements: binomial numbers by Pascal's rule.
---     choose n k             the sublists of k elements out of n
---     few n m                the sublists of 2 to m elements out of n
---     sublists-count         and so many there are
+--     sublists-count         the sublists of k elements out of n are `choose n k`
 --     choose-mono, few-mono  more elements, or a larger m, no fewer sublists
 --     Sized p m              the test p passes only sublists of 2 to m elements
 --     few-le                 such a test passes at most `few` of them
@@ -18,21 +16,12 @@ use native.Mathlib.Omega.{arith}
 use lib.Arith.{le-zero}
 use lib.Dec.{T, eqb, eqb·zero-suc, eqb·suc-zero, eqb·suc-suc}
 use lib.ListN.{length, length-append, length-map}
+use Rattle.laws.specs.Limits.{choose, few}
 use Rattle.laws.specs.Lists.{keep, every, sublists}
 use Rattle.laws.proofs.Tests.{T-and, and-T, bool-ext, neq→}
 use Rattle.laws.proofs.Keep.{keep-none, keep-ext, every→, →every}
 use Rattle.laws.proofs.KeepCount.{length-keep-split, length-keep-and-le, length-keep-lt}
 use Rattle.laws.proofs.Sublists.{keep-sublists-cons, sublists-drop}
-
-unfoldable pub choose : ℕ → ℕ → ℕ
-choose n zero = 1
-choose zero (suc k) = 0
-choose (suc n) (suc k) = choose n k + choose n (suc k)
-
-abbrev pub few : ℕ → ℕ → ℕ
-few n zero = 0
-few n (suc zero) = 0
-few n (suc (suc m)) = choose n (suc (suc m)) + few n (suc m)
 
 -- ---- more elements, more sublists
 

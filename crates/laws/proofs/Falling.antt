@@ -1,7 +1,5 @@
 -- Lists of numbers that fall strictly, and sublists of numbers as the tests of their members.
---     InTurn R l           each element of l stands in R to all that follow
 --     in-turn-keep         so it is in what a filter leaves
---     Falling l            each number of l is larger than all that follow
 --     falling-once         such a list has no number twice
 --     falling-above        what stands in front of a number is larger
 --     elem-keep            membership in a filtered list is the test
@@ -15,16 +13,11 @@ use mathlib.Core.List.{List·Memᴰ as Mem, List·Memᴰ·head as here, List·Me
 use Prim.Native.Nat.{ℕ, _<_}
 use native.Mathlib.Omega.{arith}
 use lib.Dec.{T}
-use Rattle.laws.specs.Lists.{keepIf, keep, elem, sublists, Once}
+use Rattle.laws.specs.Lists.{keepIf, keep, elem, sublists, Once, InTurn, Falling}
 use Rattle.laws.proofs.Tests.{bool-ext}
 use Rattle.laws.proofs.Keep.{mem-keep, mem-of-keep, elem→, →elem, keep-keep}
 use Rattle.laws.proofs.Once.{once-keep}
 use Rattle.laws.proofs.Sublists.{sublists-keep, sublist-is-keep}
-
--- each element stands in a relation to all that follow
-abbrev pub InTurn : {A : Type 0} → (A → A → Type 0) → List A → Type 0
-InTurn R [] = Unit {0}
-InTurn {A} R (x ∷ xs) = ((y : A) → Mem y xs → R x y) × InTurn R xs
 
 pub in-turn-keep : {A : Type 0} (R : A → A → Type 0) (p : A → Bool) (l : List A) → InTurn R l → InTurn R (keep p l)
 in-turn-keep R p [] h = tt
@@ -33,9 +26,6 @@ in-turn-keep R p (x ∷ xs) h = go (p x) (in-turn-keep R p xs (h .1))
     go : (b : Bool) → InTurn R (keep p xs) → InTurn R (keepIf b x (keep p xs))
     go true k = ((λ y m. h .0 y (mem-of-keep p xs m .0)), k)
     go false k = k
-
-abbrev pub Falling : List ℕ → Type 0
-Falling = InTurn (λ (c x : ℕ). x < c)
 
 pub falling-once : (cs : List ℕ) → Falling cs → Once cs
 falling-once [] f = tt

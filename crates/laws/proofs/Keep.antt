@@ -1,10 +1,10 @@
 -- Filters and tests of lists: what `keep`, `every`, `some`, `elem` and `bind` say of the elements.
 --     mem-keep, mem-of-keep           into a filtered list, and out of it
---     every→, →every, some→, →some, elem→, →elem     a test of a list, as a statement about its elements
+--     every→, →every, any→, →any, elem→, →elem     a test of a list, as a statement about its elements
 --     mem-bind, mem-of-bind           into the lists of `bind`, and out of them
 --     every-and                       two tests at once, or one after the other
---     keep-ext, some-ext              equal tests
---     keep-keep, some-keep            a filter after a filter, and a test after it
+--     keep-ext, any-ext              equal tests
+--     keep-keep, any-keep            a filter after a filter, and a test after it
 --     keep-swap                       two filters, in either order
 --     keep-append, keep-map           a filter of two lists one behind the other, and of images
 --     nil-of-none                     a list with no element
@@ -20,7 +20,7 @@ use Prim.Native.Nat.{ℕ, suc, _≤_, zero-le, suc-le-suc}
 use native.Mathlib.Nat.{le-suc, le-trans}
 use lib.Dec.{T, eqb, eqb→eq}
 use lib.ListN.{length}
-use Rattle.laws.specs.Lists.{keepIf, keep, every, some, elem, bind}
+use Rattle.laws.specs.Lists.{keepIf, keep, every, any, elem, bind}
 use Rattle.laws.proofs.Tests.{T-and, and-T, T-or, or-l, or-r, T-true, true-T, eq→eqb}
 
 module _ {A : Type 0} where
@@ -66,25 +66,25 @@ module _ {A : Type 0} where
       swap true false false d = refl
       swap false b c d = refl
 
-  pub some→ : (p : A → Bool) (l : List A) → T (some p l) → (x : A) × Mem x l × T (p x)
-  some→ p [] h = absurd h
-  some→ p (y ∷ ys) h = go (T-or (p y) (some p ys) h) (λ k. some→ p ys k)
+  pub any→ : (p : A → Bool) (l : List A) → T (any p l) → (x : A) × Mem x l × T (p x)
+  any→ p [] h = absurd h
+  any→ p (y ∷ ys) h = go (T-or (p y) (any p ys) h) (λ k. any→ p ys k)
     where
-      go : T (p y) ⊎ T (some p ys) → (T (some p ys) → (x : A) × Mem x ys × T (p x)) → (x : A) × Mem x (y ∷ ys) × T (p x)
+      go : T (p y) ⊎ T (any p ys) → (T (any p ys) → (x : A) × Mem x ys × T (p x)) → (x : A) × Mem x (y ∷ ys) × T (p x)
       go (inl t) r = (y, here refl, t)
       go (inr k) r = let q = r k in (q .0, there (q .1), q .2)
 
-  pub →some : (p : A → Bool) (l : List A) {x : A} → Mem x l → T (p x) → T (some p l)
-  →some p (y ∷ ys) (here e) t = or-l (p y) (some p ys) (subst (λ (z : A). T (p z)) e t)
-  →some p (y ∷ ys) (there m) t = or-r (p y) (some p ys) (→some p ys m t)
+  pub →any : (p : A → Bool) (l : List A) {x : A} → Mem x l → T (p x) → T (any p l)
+  →any p (y ∷ ys) (here e) t = or-l (p y) (any p ys) (subst (λ (z : A). T (p z)) e t)
+  →any p (y ∷ ys) (there m) t = or-r (p y) (any p ys) (→any p ys m t)
 
   pub keep-ext : (p q : A → Bool) (l : List A) → ((x : A) → Mem x l → p x ≡ q x) → keep p l ≡ keep q l
   keep-ext p q [] f = refl
   keep-ext p q (x ∷ xs) f = ap₂ (λ (b : Bool) (r : List A). keepIf b x r) (f x (here refl)) (keep-ext p q xs (λ y m. f y (there m)))
 
-  pub some-ext : (p q : A → Bool) (l : List A) → ((x : A) → Mem x l → p x ≡ q x) → some p l ≡ some q l
-  some-ext p q [] f = refl
-  some-ext p q (x ∷ xs) f = ap₂ (λ (b r : Bool). b || r) (f x (here refl)) (some-ext p q xs (λ y m. f y (there m)))
+  pub any-ext : (p q : A → Bool) (l : List A) → ((x : A) → Mem x l → p x ≡ q x) → any p l ≡ any q l
+  any-ext p q [] f = refl
+  any-ext p q (x ∷ xs) f = ap₂ (λ (b r : Bool). b || r) (f x (here refl)) (any-ext p q xs (λ y m. f y (there m)))
 
   pub keep-keep : (p q : A → Bool) (l : List A) → keep p (keep q l) ≡ keep (λ (x : A). q x && p x) l
   keep-keep p q [] = refl
@@ -97,14 +97,14 @@ module _ {A : Type 0} where
       go true e = ap (λ (r : List A). keepIf (p x) x r) e
       go false e = e
 
-  pub some-keep : (p q : A → Bool) (l : List A) → some p (keep q l) ≡ some (λ (x : A). q x && p x) l
-  some-keep p q [] = refl
-  some-keep p q (x ∷ xs) = go (q x) (some-keep p q xs)
+  pub any-keep : (p q : A → Bool) (l : List A) → any p (keep q l) ≡ any (λ (x : A). q x && p x) l
+  any-keep p q [] = refl
+  any-keep p q (x ∷ xs) = go (q x) (any-keep p q xs)
     where
       both : Bool
-      both = some (λ (y : A). q y && p y) xs
+      both = any (λ (y : A). q y && p y) xs
 
-      go : (b : Bool) → some p (keep q xs) ≡ both → some p (keepIf b x (keep q xs)) ≡ (b && p x || both)
+      go : (b : Bool) → any p (keep q xs) ≡ both → any p (keepIf b x (keep q xs)) ≡ (b && p x || both)
       go true e = ap (λ (r : Bool). p x || r) e
       go false e = e
 
@@ -164,7 +164,7 @@ module _ {A B : Type 0} where
       go (inr k) r = let q = r k in (q .0, there (q .1), q .2)
 
 pub elem→ : (c : ℕ) (xs : List ℕ) → T (elem c xs) → Mem c xs
-elem→ c xs h = let q = some→ (λ (x : ℕ). eqb c x) xs h in Memᴰ·cast (eqb→eq c (q .0) (q .2)) (q .1)
+elem→ c xs h = let q = any→ (λ (x : ℕ). eqb c x) xs h in Memᴰ·cast (eqb→eq c (q .0) (q .2)) (q .1)
 
 pub →elem : (c : ℕ) (xs : List ℕ) → Mem c xs → T (elem c xs)
-→elem c xs m = →some (λ (x : ℕ). eqb c x) xs m (eq→eqb c c refl)
+→elem c xs m = →any (λ (x : ℕ). eqb c x) xs m (eq→eqb c c refl)

@@ -36,3 +36,9 @@ pub mod Lowest
 pub mod Split
 -- signed numbers and their bits in two's complement, of any width
 pub mod Signed
+-- what stands in ascending places, the largest first
+pub mod Down
+-- the first place that passes a test
+pub mod First
+-- what is asked of a width holds of the paper's own
+pub mod Width

@@ -1,4 +1,6 @@
--- What the crates above build on: the paper's limits, clusters as numbers, and functions on lists.
+-- What the crates above build on: the paper's limits, the states of a record, rows, clusters as numbers, and functions on lists.
 pub mod Limits
+pub mod State
+pub mod Row
 pub mod Cluster
 pub mod Lists

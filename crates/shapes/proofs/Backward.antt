@@ -11,8 +11,8 @@ use Prim.Native.Nat.{ℕ, _-_}
 use lib.Dec.{eqb, leb}
 use lib.ListN.{length, length-reverse}
 use Rattle.laws.specs.Cluster.{inside, strict, nested, single, size, taxa}
-use Rattle.laws.specs.Lists.{keep, every, some}
-use Rattle.laws.proofs.Appended.{mem-reverse, mem-of-reverse, once-reverse, every-reverse, some-reverse, keep-reverse}
+use Rattle.laws.specs.Lists.{keep, every, any}
+use Rattle.laws.proofs.Appended.{mem-reverse, mem-of-reverse, once-reverse, every-reverse, any-reverse, keep-reverse}
 use Rattle.trees.specs.Tree.{children, isTree}
 use Rattle.shapes.specs.Shape.{clustersOf}
 use Rattle.shapes.specs.Text.{textBytes}
@@ -24,11 +24,11 @@ use Rattle.shapes.proofs.Theorems.{TreeOn, shape-ordered, shape-cluster
 
 module _ (xs : List ℕ) where
   abbrev isChild : List ℕ → ℕ → ℕ → Bool
-  isChild ys m k = strict k m && not (some (λ (l : ℕ). strict l m && strict k l) ys)
+  isChild ys m k = strict k m && not (any (λ (l : ℕ). strict l m && strict k l) ys)
 
   pub children-reverse : (m : ℕ) → children (reverse xs) m ≡ reverse (children xs m)
   children-reverse m =
-      (λ i. keep (λ (k : ℕ). strict k m && not (some-reverse (λ (l : ℕ). strict l m && strict k l) xs i)) (reverse xs))
+      (λ i. keep (λ (k : ℕ). strict k m && not (any-reverse (λ (l : ℕ). strict l m && strict k l) xs i)) (reverse xs))
       ∙ keep-reverse (isChild xs m) xs
 
   module _ (w d C : ℕ) where
@@ -51,8 +51,8 @@ module _ (xs : List ℕ) where
     unfolding isTree
     isTree-reverse = λ i.
         every-reverse (λ (m : ℕ). inside m C) xs i
-        && some-reverse (λ (x : ℕ). eqb C x) xs i
-        && every (λ (u : ℕ). not (inside u C) || some-reverse (λ (x : ℕ). eqb u x) xs i) (taxa w)
+        && any-reverse (λ (x : ℕ). eqb C x) xs i
+        && every (λ (u : ℕ). not (inside u C) || any-reverse (λ (x : ℕ). eqb u x) xs i) (taxa w)
         && laminar-reverse i
         && few-reverse i
 

@@ -18,9 +18,9 @@ use native.Mathlib.Omega.{arith}
 use lib.Dec.{T, T-not, not-T}
 use lib.ListN.{length}
 use Rattle.laws.specs.Cluster.{inside, strict, apart, nested, single, unionOf}
-use Rattle.laws.specs.Lists.{keep, some, Once}
+use Rattle.laws.specs.Lists.{keep, any, Once}
 use Rattle.laws.proofs.Tests.{T-and, and-T}
-use Rattle.laws.proofs.Keep.{mem-keep, mem-of-keep, some→, →some}
+use Rattle.laws.proofs.Keep.{mem-keep, mem-of-keep, any→, →any}
 use Rattle.laws.proofs.Cluster.{inside-refl, inside-trans, inside-antisym, le-of-inside, has-of-inside, inside-of-taxa, apart→}
 use Rattle.laws.proofs.Cluster.{strict→, →strict, Nest, below, above, away, nested→, inside-unionOf, unionOf-inside, two-parts}
 use Rattle.laws.proofs.Taxa.{→single}
@@ -62,7 +62,7 @@ module _ (xs : List ℕ) (C : ℕ) where
   between k l = strict l C && strict k l
 
   abbrev isChild : ℕ → Bool
-  isChild k = strict k C && not (some (between k) xs)
+  isChild k = strict k C && not (any (between k) xs)
 
   pub record Child (c : ℕ) : Type 0 where
     pub member : Mem c xs
@@ -72,20 +72,20 @@ module _ (xs : List ℕ) (C : ℕ) where
   pub child→ : (c : ℕ) → Mem c (children xs C) → Child c
   child→ c m =
       let q = mem-of-keep isChild xs m in
-      let r = T-and (strict c C) (not (some (between c) xs)) (q .1) in
+      let r = T-and (strict c C) (not (any (between c) xs)) (q .1) in
       record {
         member = q .0;
         strictly = r .0;
-        largest = λ l k h i. T-not (some (between c) xs) (r .1) (→some (between c) xs k (and-T (strict l C) (strict c l) h i));
+        largest = λ l k h i. T-not (any (between c) xs) (r .1) (→any (between c) xs k (and-T (strict l C) (strict c l) h i));
       }
 
   pub →child : (c : ℕ) → Child c → Mem c (children xs C)
   →child c k =
-      mem-keep isChild xs (k .member) (and-T (strict c C) (not (some (between c) xs)) (k .strictly) (not-T (some (between c) xs) none))
+      mem-keep isChild xs (k .member) (and-T (strict c C) (not (any (between c) xs)) (k .strictly) (not-T (any (between c) xs) none))
     where
-      none : T (some (between c) xs) → ⊥
+      none : T (any (between c) xs) → ⊥
       none h =
-          let q = some→ (between c) xs h in
+          let q = any→ (between c) xs h in
           let r = T-and (strict (q .0) C) (strict c (q .0)) (q .2) in
           k .largest (q .0) (q .1) (r .0) (r .1)
 

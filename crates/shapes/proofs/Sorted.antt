@@ -18,10 +18,10 @@ use Prim.Native.Nat.{ℕ, suc, _≤_, _<_}
 use native.Mathlib.Omega.{arith}
 use lib.Dec.{T, ltb, ltb→lt, lt→ltb, nltb→le}
 use lib.ListN.{length}
-use Rattle.laws.specs.Lists.{keep, every, Once}
+use Rattle.laws.specs.Lists.{keep, every, Once, InTurn, Falling}
 use Rattle.laws.proofs.Tests.{T-and, and-T}
 use Rattle.laws.proofs.Keep.{every→, →every}
-use Rattle.laws.proofs.Falling.{InTurn, in-turn-keep, Falling, falling-once}
+use Rattle.laws.proofs.Falling.{in-turn-keep, falling-once}
 use Rattle.laws.proofs.Appended.{mem-reverse, mem-of-reverse}
 use Rattle.shapes.specs.Shape.{ascends}
 use Rattle.shapes.specs.Drawn.{insertBy, sortBy, ascending}

@@ -21,6 +21,8 @@ use native.Mathlib.Decide.{decLe, ℕ-discrete}
 use native.Mathlib.Omega.{arith}
 use lib.ListN.{length, getD}
 use Rattle.laws.specs.Limits.{narrow, degreeLow, degreeHigh}
+use Rattle.laws.specs.Lists.{firstFrom}
+use Rattle.laws.specs.Row.{Row}
 use Rattle.cluster.specs.declared.refusal.Answer.the-variants.{Done}
 use Rattle.cluster.specs.declared.refusal.Refusal.{Refusal}
 use Rattle.cluster.specs.declared.refusal.Refusal.the-variants.{NoBytes, WrongLength, TooLong, DegreeOut, BadRecord, Repeated}
@@ -28,14 +30,12 @@ use Rattle.cluster.specs.declared.refusal.Refusal.the-variants.{NoTree, Unfit, 
 use Rattle.cluster.specs.Bytes.{byteValues}
 use Rattle.cluster.specs.Record.{recordBytes}
 use Rattle.cluster.specs.Refusal.{sentOf}
-use Rattle.trees.specs.Rows.{Row}
+use Rattle.trees.specs.Rows.{RowFacts}
 use Rattle.trees.specs.Built.{builtTable}
-use Rattle.trees.proofs.Formula.Rows.{RowFacts}
 use Rattle.kept.specs.View.{tableOf}
 use Rattle.table.specs.Listing.{recordsIn, rowIn, badFrom, repeats, repeatFrom, rowsOf, recordRefusal}
 use Rattle.table.specs.Build.{Making, refusalOf, buildTable}
-use Rattle.table.specs.Changes.{firstFrom}
-use Rattle.table.proofs.Laws.Scan.{first-before, first-at, first-of, first-all}
+use Rattle.laws.proofs.First.{first-before, first-at, first-of, first-all}
 use Rattle.table.proofs.Laws.Insert.{falling-only}
 use Rattle.table.proofs.Laws.Listing.{breaks, bad-is, repeat-is}
 use Rattle.table.proofs.Laws.Listing.{rows-mem, rows-has, rows-fall, rows-length, row-facts, row-rules}

@@ -1,6 +1,4 @@
 -- Laws of the definitions of `specs/`, a file for each.
--- the first place that passes a test
-pub mod Scan
 -- one row put among others
 pub mod Insert
 -- the rows of a list, and its refusals

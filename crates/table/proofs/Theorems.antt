@@ -32,11 +32,12 @@ use lib.Dec.{T, lit≤}
 use lib.IntN.{ℤ}
 use Rattle.laws.specs.Limits.{narrow}
 use Rattle.laws.specs.Lists.{elem}
+use Rattle.laws.specs.Row.{Row}
 use Rattle.laws.proofs.Keep.{elem→, →elem}
 use Rattle.laws.proofs.Tests.{true-T}
 use Rattle.cluster.specs.declared.refusal.Answer.the-variants.{Done}
 use Rattle.cluster.specs.Refusal.{sentOf}
-use Rattle.trees.specs.Rows.{Row, Entry, clustersOf, cl}
+use Rattle.trees.specs.Rows.{Entry, clustersOf, cl}
 use Rattle.trees.specs.Result.{Result}
 use Rattle.trees.specs.Built.{builtResult, builtTable}
 use Rattle.trees.specs.Rescored.{putScore, rescored}

@@ -4,12 +4,11 @@
 --     refusalOf l d            why a build is refused: 4 first, then the list's refusals
 --     buildTable l d           what building the list l with the degree bound d gives
 -- Assumes nothing.
-use mathlib.Core.Bool.{Bool, not, cond, _&&_}
+use mathlib.Core.Bool.{not, cond}
 use mathlib.Core.Option.{Option, none, some}
 use mathlib.Core.List.{List}
 use Prim.Native.Nat.{ℕ}
-use lib.Dec.{leb}
-use Rattle.laws.specs.Limits.{narrow, degreeLow, degreeHigh}
+use Rattle.laws.specs.Limits.{narrow, isDegree}
 use Rattle.cluster.specs.declared.refusal.Answer.the-variants.{Done, Refused}
 use Rattle.cluster.specs.declared.refusal.Refusal.{Refusal}
 use Rattle.cluster.specs.declared.refusal.Refusal.the-variants.{DegreeOut}
@@ -26,9 +25,6 @@ pub record Making : Type 0 where
 
 abbrev pub makingOf : Built → Making
 makingOf b = record { sent = sentOf (b .answer); table = b .table }
-
-abbrev pub isDegree : ℕ → Bool
-isDegree d = leb degreeLow d && leb d degreeHigh
 
 abbrev pub refusalOf : List ℕ → ℕ → Option Refusal
 refusalOf l d = cond (not (isDegree d)) (some DegreeOut) (listRefusal l)

@@ -3,7 +3,6 @@
 --     changedRecord l i z s     record i of l with weight z and state s
 --     changedBytes l i z s      the list l with record i rewritten so
 --     HasCluster l c            c is the cluster of a record
---     firstFrom p i k           the first of the k places from place i on that passes the test p; i + k where none does
 --     firstPlace l c            the first record with the cluster c; the number of records where there is none
 --     isTaken l x               the change x names the cluster of a record, and has a score
 --     changeOne, changeAll      a list with one change, and with one after another
@@ -12,13 +11,14 @@
 use mathlib.Core.Path.{_≡_}
 use mathlib.Core.Bool.{Bool, cond, _&&_}
 use mathlib.Core.List.{List, [], _∷_, _++_}
-use Prim.Native.Nat.{ℕ, zero, suc, _+_, _*_, _<_}
+use Prim.Native.Nat.{ℕ, _+_, _*_, _<_}
 use lib.Dec.{eqb, ltb}
 use lib.IntN.{ℤ}
 use lib.ListN.{take, drop}
+use Rattle.laws.specs.Lists.{firstFrom}
+use Rattle.laws.specs.Row.{Row}
 use Rattle.cluster.specs.declared.record.Record.{Record}
 use Rattle.cluster.specs.Record.{recordBytes, bytesOf}
-use Rattle.trees.specs.Rows.{Row}
 use Rattle.kept.specs.declared.table.Table.{Table}
 use Rattle.table.specs.Listing.{recordsIn, rowIn}
 use Rattle.table.specs.Rescore.{isScore, rescoreTable}
@@ -34,10 +34,6 @@ changedBytes l i z s =
 -- ---- the record that a change names
 abbrev pub HasCluster : List ℕ → ℕ → Type 0
 HasCluster l c = (i : ℕ) × (i < recordsIn l) × (c ≡ rowIn l i .cluster)
-
-abbrev pub firstFrom : (ℕ → Bool) → ℕ → ℕ → ℕ
-firstFrom p i zero = i
-firstFrom p i (suc k) = cond (p i) i (firstFrom p (suc i) k)
 
 abbrev pub firstPlace : List ℕ → ℕ → ℕ
 firstPlace l c = firstFrom (λ (i : ℕ). eqb (rowIn l i .cluster) c) 0 (recordsIn l)

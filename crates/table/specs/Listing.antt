@@ -18,12 +18,12 @@ use lib.Dec.{eqb, ltb}
 use lib.ListN.{length, take, drop}
 use Rattle.laws.specs.Limits.{narrow}
 use Rattle.laws.specs.Lists.{elem}
+use Rattle.laws.specs.Row.{Row}
 use Rattle.cluster.specs.declared.refusal.Refusal.{Refusal}
 use Rattle.cluster.specs.declared.refusal.Refusal.the-variants.{NoBytes, WrongLength, TooLong, BadRecord, Repeated}
 use Rattle.cluster.specs.Record.{recordBytes, recordOf}
 use Rattle.cluster.specs.Reading.{ruleOf}
 use Rattle.cluster.specs.Rule.{isKept}
-use Rattle.trees.specs.Rows.{Row}
 
 abbrev pub recordsIn : List ℕ → ℕ
 recordsIn l = length l / recordBytes

@@ -16,16 +16,14 @@ use lib.Dec.{T}
 use lib.IntN.{ℤ, pos}
 use lib.ListN.{length, getD}
 use Rattle.laws.specs.Cluster.{highest}
-use Rattle.laws.specs.Lists.{keep}
-use Rattle.laws.proofs.Falling.{Falling}
-use Rattle.trees.specs.Rows.{Row, isScored, Entry, sc}
+use Rattle.laws.specs.Lists.{keep, Falling}
+use Rattle.laws.specs.Limits.{rowCap, wordValues}
+use Rattle.laws.specs.Row.{Row, isScored}
+use Rattle.trees.specs.Rows.{Entry, sc}
 use Rattle.trees.specs.Result.{Result}
-use Rattle.trees.proofs.Searching.Covers.{coversOf}
-use Rattle.trees.proofs.Formula.Kind.{Kind, overTuples, pairKind}
-use Rattle.trees.proofs.Counting.Keys.{countKind, solKind}
-use Rattle.trees.proofs.Counting.Capped.{Res}
+use Rattle.trees.specs.Kind.{Kind, overTuples, pairKind, countKind, solKind, Res}
+use Rattle.trees.specs.Cover.{coversOf}
 use Rattle.kept.specs.declared.table.Table.{Table}
-use Rattle.kept.specs.View.{rowCap, wordValues}
 use Rattle.kept.specs.Arrays.{Rising}
 use Rattle.kept.specs.Fit.{isTold}
 use Rattle.table.specs.declared.tally.Tally.{Tally}

@@ -13,9 +13,8 @@ use lib.Dec.{eqb, ltb}
 use lib.IntN.{ℤ, pos, _+ℤ_}
 use lib.Signed.{ltZ}
 use Rattle.trees.specs.Result.{Result, countField, markField}
-use Rattle.trees.proofs.Counting.Keys.{Sol}
-use Rattle.trees.proofs.Counting.Capped.{Res}
-use Rattle.kept.specs.View.{wordValues}
+use Rattle.trees.specs.Kind.{Sol, Res}
+use Rattle.laws.specs.Limits.{wordValues}
 use Rattle.table.specs.declared.tally.Count.{Count}
 use Rattle.table.specs.declared.tally.Tally.{Tally}
 

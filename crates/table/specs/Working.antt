@@ -11,12 +11,13 @@ use lib.Dec.{T}
 use lib.IntN.{ℤ, natAbs}
 use lib.ListN.{getD}
 use Rattle.laws.specs.Cluster.{inside}
-use Rattle.laws.specs.Limits.{narrow, weightMax, degreeLow, degreeHigh}
-use Rattle.trees.specs.Rows.{Row, Entry}
+use Rattle.laws.specs.Limits.{narrow, weightMax, degreeLow, degreeHigh, rowCap, wordValues}
+use Rattle.laws.specs.Row.{Row}
+use Rattle.trees.specs.Rows.{Entry}
 use Rattle.trees.specs.Result.{Result}
 use Rattle.trees.specs.Rescored.{workedOut, again}
 use Rattle.kept.specs.declared.table.Table.{Table}
-use Rattle.kept.specs.View.{rowCap, wordValues, rowAt, entryAt, entriesOf, tableOf}
+use Rattle.kept.specs.View.{rowAt, entryAt, entriesOf, tableOf}
 use Rattle.kept.specs.Fit.{keepsRules, fitEntry, blankFrom}
 use Rattle.kept.specs.Arrays.{clustersDown, Rising, Sized}
 use Rattle.table.specs.Searched.{Columns, rowOf, fieldsOf, Starts, Long, Sound}

@@ -9,7 +9,7 @@ ghost use lib.IntN.{_+ℤ_};
 ghost use lib.Signed.{ltZ};
 ghost use mir.Syntax.{w64};
 ghost use mir.Val.{SFits};
-ghost use Rattle.kept.specs.View.{wordValues};
+ghost use Rattle.laws.specs.Limits.{wordValues};
 ghost use Rattle.table.specs.Tally.{noTally, plusCounts, timesCounts, isLarger, isBefore, keepsFirst, plusTally, underTally};
 
 // A number of tuples with the fields of a row. A count of 0 says that no tuple leads to a tree, and then the rest is zero.

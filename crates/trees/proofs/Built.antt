@@ -20,38 +20,40 @@ use lib.ListN.{length}
 use Rattle.laws.specs.Cluster.{single}
 use Rattle.laws.specs.Limits.{Width}
 use Rattle.laws.specs.Lists.{keep, sublists}
+use Rattle.laws.specs.Row.{Row, isScored}
 use Rattle.laws.proofs.Falling.{falling-once}
 use Rattle.laws.proofs.Tests.{true-T}
 use Rattle.laws.proofs.Keep.{nil-of-none}
 use Rattle.laws.proofs.Once.{map-inj}
-use Rattle.trees.specs.Rows.{Row, isScored, clustersOf, scoredIn, Entry, cl, sc}
+use Rattle.trees.specs.Rows.{clustersOf, scoredIn, Entry, cl, sc, RowFacts}
 use Rattle.trees.specs.Tree.{treesOn}
 use Rattle.trees.specs.Tuple.{isTuple}
 use Rattle.trees.specs.Heaviest.{firstHeaviest}
 use Rattle.trees.specs.Result.{Result, countField, markField}
 use Rattle.trees.specs.Built.{rowLength, withBest, builtResult, builtTable}
 use Rattle.trees.specs.Rescored.{Key, keyFirst, workedOut}
-use Rattle.trees.proofs.Formula.Kind.{tableOf, value, valueIf, build, mapE}
-use Rattle.trees.proofs.Formula.Rows.{RowFacts, table-row, table-rows, mem-scored, givenOf}
+use Rattle.trees.specs.Kind.{workedFrom, value, valueIf, build, Sol, solKind, Res}
+use Rattle.trees.proofs.Formula.Kind.{mapE}
+use Rattle.trees.proofs.Formula.Rows.{table-row, table-rows, mem-scored, givenOf}
 use Rattle.trees.proofs.Sets.TreeFacts.{Given}
 use Rattle.trees.proofs.Joined.TreeTest.{tree-of}
 use Rattle.trees.proofs.Ties.Marks.{marks-keep, weight-keep}
 use Rattle.trees.proofs.Ties.KeyOrder.{key-irrefl}
 use Rattle.trees.proofs.Ties.FirstHeaviest.{setKey, AllSets, set-of-scored, first-key}
-use Rattle.trees.proofs.Counting.Keys.{AtLeast, least-antisym, least-of-first, Sol, solKind}
+use Rattle.trees.proofs.Counting.Keys.{AtLeast, least-antisym, least-of-first}
 use Rattle.trees.proofs.Counting.Best.{Answer, row-answer}
-use Rattle.trees.proofs.Counting.Capped.{Res, encodeSol, encode, Counted, second, count-small}
+use Rattle.trees.proofs.Counting.Capped.{encodeSol, encode, Counted, second, count-small}
 use Rattle.trees.proofs.Counting.Worked.{markIn, lengthIf, trueResult, AllCounted, worked-encode, counted-value}
 use Rattle.trees.proofs.Formula.RowLength.{length-beneath}
 
 abbrev pub workedTable : Width → ℕ → List Row → List (Entry Result)
-workedTable W d rs = tableOf (workedOut W d (clustersOf rs)) rs
+workedTable W d rs = workedFrom (workedOut W d (clustersOf rs)) rs
 
 -- ---- true counts and keys
 
 module _ (d : ℕ) (cs : List ℕ) where
   abbrev pub trueTable : List Row → List (Entry Res)
-  trueTable rs = tableOf (trueResult d cs) rs
+  trueTable rs = workedFrom (trueResult d cs) rs
 
   -- its second half is the table of counts with keys
   second-table : (rs : List Row) → map second (trueTable rs) ≡ build (solKind (markIn cs)) d rs
@@ -71,7 +73,7 @@ module _ (d : ℕ) (cs : List ℕ) where
       (counted-value (markIn cs) d r (map second (trueTable rs)) (second-counted (trueTable rs) (all-counted rs)))
 
   pub true-table : (W : Width) → 1 ≤ W .countMax → (rs : List Row)
-      → tableOf (workedOut W d cs) rs ≡ map (mapE (encode (W .countMax))) (trueTable rs)
+      → workedFrom (workedOut W d cs) rs ≡ map (mapE (encode (W .countMax))) (trueTable rs)
   true-table W p [] = refl
   true-table W p (r ∷ rs) =
       ap (λ (t : List (Entry Result)). record { row = r; val = workedOut W d cs r t } ∷ t) (true-table W p rs)

@@ -19,16 +19,17 @@ use lib.ListN.{length}
 use Rattle.laws.specs.Cluster.{inside, single}
 use Rattle.laws.specs.Limits.{Width}
 use Rattle.laws.specs.Lists.{keepIf, keep}
+use Rattle.laws.specs.Row.{Row, isScored}
 use Rattle.laws.proofs.Tests.{T-dec, T-true, T-false, cond-false}
 use Rattle.laws.proofs.Appended.{map-through}
 use Rattle.laws.proofs.Keep.{keep-swap}
 use Rattle.laws.proofs.Sublists.{sublists-drop}
 use Rattle.laws.proofs.Cluster.{inside-refl, inside-trans}
-use Rattle.trees.specs.Rows.{Row, isScored, clustersOf, Entry, cl, sc}
+use Rattle.trees.specs.Rows.{clustersOf, Entry, cl, sc}
 use Rattle.trees.specs.Tuple.{isTuple, tuples}
 use Rattle.trees.specs.Result.{Result, blank}
 use Rattle.trees.specs.Rescored.{keyOf, firstKey, isLive, joined, alone, workedOut, putScore, againIf, again, rescored}
-use Rattle.trees.proofs.Formula.Kind.{tableOf}
+use Rattle.trees.specs.Kind.{workedFrom}
 use Rattle.trees.proofs.Sets.Tuples.{part-inside}
 
 -- ---- only what lies inside counts
@@ -86,10 +87,10 @@ module _ (c : ℕ) (z : ℤ) (s : ℕ) where
 
     -- the table of the rows, and that of the changed rows
     abbrev before : List Row → List (Entry A)
-    before rs = tableOf F rs
+    before rs = workedFrom F rs
 
     abbrev after : List Row → List (Entry A)
-    after rs = tableOf F (map put rs)
+    after rs = workedFrom F (map put rs)
 
     -- they agree inside X
     abbrev Same : List Row → ℕ → Type 0
@@ -125,7 +126,7 @@ module _ (c : ℕ) (z : ℤ) (s : ℕ) where
             ap₂ (λ (x : Entry A) (l : List (Entry A)). keepIf (inside (r .cluster) X) x l) (same-entry r rs out (beneath out)) ih
             ∙ ap (λ (b : Bool). keepIf b (new r rs) (keep (under X) (after rs))) (sym under-new)
 
-    pub again-is-table : (rs : List Row) → again F c (map putE (tableOf F rs)) ≡ tableOf F (map put rs)
+    pub again-is-table : (rs : List Row) → again F c (map putE (workedFrom F rs)) ≡ workedFrom F (map put rs)
     again-is-table [] = refl
     again-is-table (r ∷ rs) = go (T-dec (inside c (r .cluster))) (again-is-table rs)
       where
@@ -136,7 +137,7 @@ module _ (c : ℕ) (z : ℤ) (s : ℕ) where
         test = ap (inside c) (put-cluster r)
 
         go : T (inside c (r .cluster)) ⊎ (T (inside c (r .cluster)) → ⊥) → again F c (map putE (before rs)) ≡ after rs
-            → againIf F (inside c (put r .cluster)) scored (again F c (map putE (before rs))) ≡ tableOf F (put r ∷ map put rs)
+            → againIf F (inside c (put r .cluster)) scored (again F c (map putE (before rs))) ≡ workedFrom F (put r ∷ map put rs)
         go (inl i) ih = ap₂ (λ (b : Bool) (l : List (Entry A)). againIf F b scored l) (test ∙ T-true (inside c (r .cluster)) i) ih
         go (inr n) ih =
             ap₂ (λ (b : Bool) (l : List (Entry A)). againIf F b scored l) (test ∙ T-false (inside c (r .cluster)) n) ih
@@ -200,5 +201,5 @@ module _ (W : Width) (d : ℕ) (cs : List ℕ) (c : ℕ) (z : ℤ) (s : ℕ) whe
   rescore-other t = again-other (workedOut W d cs) c (map withScore t) ∙ put-list-other t
 
   pub rescore-is-table : (rs : List Row)
-      → rescored W d cs c z s (tableOf (workedOut W d cs) rs) ≡ tableOf (workedOut W d cs) (map (putScore c z s) rs)
+      → rescored W d cs c z s (workedFrom (workedOut W d cs) rs) ≡ workedFrom (workedOut W d cs) (map (putScore c z s) rs)
   rescore-is-table rs = again-is-table c z s (workedOut W d cs) (worked-local W d cs) rs

@@ -21,17 +21,16 @@ use lib.IntN.{ℤ}
 use lib.ListN.{length}
 use lib.Signed.{ltZ}
 use Rattle.laws.specs.Limits.{Width}
-use Rattle.laws.specs.Lists.{sublists}
-use Rattle.laws.proofs.Falling.{Falling}
+use Rattle.laws.specs.Lists.{sublists, Falling}
+use Rattle.laws.specs.Row.{Row}
 use Rattle.laws.proofs.Integers.{ltZ-trans, ltZ-irrefl}
-use Rattle.trees.specs.Rows.{Row, clustersOf, scoredIn, Entry}
+use Rattle.trees.specs.Rows.{clustersOf, scoredIn, Entry, RowFacts}
 use Rattle.trees.specs.Tree.{treesOn}
 use Rattle.trees.specs.Heaviest.{weightOf, comesFirst, firstHeaviest}
 use Rattle.trees.specs.Result.{Result, countField}
 use Rattle.trees.specs.Built.{builtTable}
 use Rattle.trees.specs.Rescored.{putScore, workedOut, rescored}
-use Rattle.trees.proofs.Formula.Kind.{tableOf}
-use Rattle.trees.proofs.Formula.Rows.{RowFacts}
+use Rattle.trees.specs.Kind.{workedFrom}
 use Rattle.trees.proofs.Ties.KeyOrder.{Before, before→}
 use Rattle.trees.proofs.Ties.FirstHeaviest.{setKey, comes-is-key, first-some, first-mem, first-before, first-only}
 use Rattle.trees.proofs.Counting.Capped.{past, count-small, count-large}
@@ -107,7 +106,7 @@ module _ (W : Width) (d : ℕ) (c : ℕ) (z : ℤ) (s : ℕ) (rs : List Row) whe
   rescore-is-build p f =
       ap (rescored W d (clustersOf rs) c z s) (sym (worked-is-built W p d rs f))
       ∙ rescore-is-table W d (clustersOf rs) c z s rs
-      ∙ ap (λ (cs : List ℕ). tableOf (workedOut W d cs) (map (putScore c z s) rs)) (sym (put-clusters c z s rs))
+      ∙ ap (λ (cs : List ℕ). workedFrom (workedOut W d cs) (map (putScore c z s) rs)) (sym (put-clusters c z s rs))
       ∙ worked-is-built W p d (map (putScore c z s) rs) (put-facts (W .taxa) f)
 
 pub rescore-keeps-rows : (W : Width) (d : ℕ) (cs : List ℕ) (c : ℕ) (z : ℤ) (s : ℕ) (t : List (Entry Result))

@@ -14,7 +14,8 @@ use lib.ListN.{length}
 use Rattle.laws.specs.Cluster.{single}
 use Rattle.laws.specs.Limits.{Width}
 use Rattle.laws.specs.Lists.{keep, sublists}
-use Rattle.trees.specs.Rows.{Row, isScored, clustersOf, scoredIn, Entry}
+use Rattle.laws.specs.Row.{Row, isScored}
+use Rattle.trees.specs.Rows.{clustersOf, scoredIn, Entry}
 use Rattle.trees.specs.Tree.{treesOn}
 use Rattle.trees.specs.Tuple.{isTuple}
 use Rattle.trees.specs.Heaviest.{weightOf, firstHeaviest}

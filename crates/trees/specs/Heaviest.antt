@@ -15,7 +15,7 @@ use Prim.Native.Nat.{ℕ, max}
 use lib.IntN.{ℤ, pos, _+ℤ_}
 use lib.Signed.{ltZ}
 use Rattle.laws.specs.Lists.{keep, elem}
-use Rattle.trees.specs.Rows.{Row}
+use Rattle.laws.specs.Row.{Row}
 
 -- the weights of the rows whose cluster passes a test
 abbrev pub weightIn : List Row → (ℕ → Bool) → ℤ

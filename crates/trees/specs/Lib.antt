@@ -6,3 +6,5 @@ pub mod Heaviest
 pub mod Result
 pub mod Built
 pub mod Rescored
+pub mod Kind
+pub mod Cover

@@ -26,8 +26,9 @@ use lib.ListN.{length}
 use lib.Signed.{ltZ}
 use Rattle.laws.specs.Cluster.{inside, single}
 use Rattle.laws.specs.Limits.{Width}
-use Rattle.laws.specs.Lists.{keep, every, some as any}
-use Rattle.trees.specs.Rows.{Row, isScored, Entry, cl, sc}
+use Rattle.laws.specs.Lists.{keep, every, any}
+use Rattle.laws.specs.Row.{Row, isScored}
+use Rattle.trees.specs.Rows.{Entry, cl, sc}
 use Rattle.trees.specs.Tuple.{tuples}
 use Rattle.trees.specs.Result.{Result, blank, marksIn}
 

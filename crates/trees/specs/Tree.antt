@@ -9,10 +9,10 @@ use Prim.Native.Nat.{ℕ, _-_}
 use lib.Dec.{leb}
 use lib.ListN.{length}
 use Rattle.laws.specs.Cluster.{inside, strict, nested, single, taxa}
-use Rattle.laws.specs.Lists.{keep, every, some, elem, sublists}
+use Rattle.laws.specs.Lists.{keep, every, any, elem, sublists}
 
 abbrev pub children : List ℕ → ℕ → List ℕ
-children xs m = keep (λ (k : ℕ). strict k m && not (some (λ (l : ℕ). strict l m && strict k l) xs)) xs
+children xs m = keep (λ (k : ℕ). strict k m && not (any (λ (l : ℕ). strict l m && strict k l) xs)) xs
 
 -- all inside C; C in it; each single taxon of C in it; any two nested or apart; at most d - 1 children for a member of two or more taxa
 unfoldable pub isTree : ℕ → ℕ → ℕ → List ℕ → Bool

@@ -9,7 +9,7 @@ use lib.ListN.{getD}
 use mir.Facts.{toZ-ofZ}
 use mir.Syntax.{w64}
 use mir.Val.{SFits}
-use Rattle.kept.specs.View.{rowCap}
+use Rattle.laws.specs.Limits.{rowCap}
 use Rattle.calls.specs.Digest.{Results, results, digestTo}
 use Rattle.calls.proofs.Laws.Digest.{digestTo-none, digestTo-more}
 use Rattle.calls.proofs.digest_of.Statement.{statement}

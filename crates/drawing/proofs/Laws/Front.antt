@@ -11,7 +11,7 @@ use Prim.Native.Nat.{ℕ, _-_, _+_, _≤_}
 use native.Mathlib.Omega.{arith}
 use lib.ListN.{length, take, drop, replicate, length-append}
 use lib.Seq.{take-at, sets, sets-eq}
-use Rattle.kept.specs.View.{rowCap}
+use Rattle.laws.specs.Limits.{rowCap}
 use Rattle.drawing.specs.declared.marks.Members.{Members}
 use Rattle.drawing.specs.Gathered.{Holds}
 

@@ -8,7 +8,7 @@ use Prim.Native.Nat.{ℕ, suc, _+_, _-_, _<_}
 use native.Mathlib.Omega.{arith}
 use lib.ListN.{length, length-append, replicate, set}
 use lib.Seq.{set-at}
-use Rattle.kept.specs.View.{rowCap}
+use Rattle.laws.specs.Limits.{rowCap}
 use Rattle.drawing.specs.declared.marks.Members.{Members}
 use Rattle.drawing.specs.Gathered.{Holds}
 

@@ -14,8 +14,8 @@ use native.Mathlib.Omega.{arith}
 use borrow.Author.Tests.{eq-eqb, ne-eqb}
 use lib.IntN.{ℤ, pos, _+ℤ_, +ℤ-comm, +ℤ-idl}
 use lib.ListN.{length, getD, length-append}
-use Rattle.trees.specs.Rows.{scored}
-use Rattle.kept.specs.View.{wordValues}
+use Rattle.laws.specs.State.{scored}
+use Rattle.laws.specs.Limits.{wordValues}
 use Rattle.kept.specs.Fit.{hasMark}
 use Rattle.kept.proofs.Laws.Marks.{mark-high}
 use Rattle.drawing.specs.Marked.{membersTo, scoredTo, weightTo}

@@ -13,13 +13,13 @@ use Prim.Native.Nat.{ℕ, zero, suc, _^_, _<_}
 use native.Mathlib.Nat.{min-le-left, lt-of-lt-of-le}
 use native.Mathlib.Omega.{arith}
 use lib.ListN.{getD}
-use Rattle.laws.specs.Limits.{narrow}
+use Rattle.laws.specs.Limits.{narrow, rowCap}
 use Rattle.laws.specs.Lists.{Once}
 use Rattle.laws.proofs.Once.{once-append}
 use Rattle.laws.proofs.Tests.{true-T}
 use Rattle.trees.specs.Rows.{cl}
 use Rattle.kept.specs.declared.table.Table.{Table}
-use Rattle.kept.specs.View.{rowCap, entriesOf, entryAt}
+use Rattle.kept.specs.View.{entriesOf, entryAt}
 use Rattle.kept.specs.Fit.{hasMark, isFit}
 use Rattle.kept.specs.Rows.{shownRows}
 use Rattle.kept.proofs.Laws.Fit.{isFit→, fit→}

@@ -15,7 +15,7 @@ use native.Mathlib.Numerals.{add-one}
 use native.Mathlib.Omega.{arith}
 use lib.ListN.{length, getD, drop, drop-of-length-le}
 use lib.Seq.{drop-cons}
-use Rattle.laws.specs.Lists.{keepIf, keep, every, some}
+use Rattle.laws.specs.Lists.{keepIf, keep, every, any}
 use Rattle.laws.proofs.Keep.{length-keep-le}
 
 pub drop-more : (l : List ℕ) (i : ℕ) → i < length l → drop i l ≡ getD l i 0 ∷ drop (i + 1) l
@@ -27,7 +27,7 @@ pub record EveryFrom (p : ℕ → Bool) (l : List ℕ) (i : ℕ) : Type 0 where
 
 pub record SomeFrom (p : ℕ → Bool) (l : List ℕ) (i : ℕ) : Type 0 where
   pub place : i ≤ length l
-  pub rest : some p l ≡ some p (drop i l)
+  pub rest : any p l ≡ any p (drop i l)
 
 pub record CountFrom (p : ℕ → Bool) (l : List ℕ) (n i : ℕ) : Type 0 where
   pub place : i ≤ length l
@@ -54,13 +54,13 @@ module _ {p : ℕ → Bool} {l : List ℕ} where
 
   pub some-more : {i : ℕ} → SomeFrom p l i → i < length l → p (getD l i 0) ≡ false → SomeFrom p l (i + 1)
   some-more {i} s h e =
-      record { place = omega arith; rest = s .rest ∙ ap (some p) (drop-more l i h) ∙ ap (λ (b : Bool). b || some p (drop (i + 1) l)) e }
+      record { place = omega arith; rest = s .rest ∙ ap (any p) (drop-more l i h) ∙ ap (λ (b : Bool). b || any p (drop (i + 1) l)) e }
 
-  pub some-stop : {i : ℕ} → SomeFrom p l i → i < length l → p (getD l i 0) ≡ true → some p l ≡ true
-  some-stop {i} s h e = s .rest ∙ ap (some p) (drop-more l i h) ∙ ap (λ (b : Bool). b || some p (drop (i + 1) l)) e
+  pub some-stop : {i : ℕ} → SomeFrom p l i → i < length l → p (getD l i 0) ≡ true → any p l ≡ true
+  some-stop {i} s h e = s .rest ∙ ap (any p) (drop-more l i h) ∙ ap (λ (b : Bool). b || any p (drop (i + 1) l)) e
 
-  pub some-end : {i : ℕ} → SomeFrom p l i → length l ≤ i → some p l ≡ false
-  some-end s h = s .rest ∙ ap (some p) (drop-of-length-le l h)
+  pub some-end : {i : ℕ} → SomeFrom p l i → length l ≤ i → any p l ≡ false
+  some-end s h = s .rest ∙ ap (any p) (drop-of-length-le l h)
 
   -- ---- how many pass
   -- one more or as many, by the test of the element at i

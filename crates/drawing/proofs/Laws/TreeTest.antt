@@ -16,11 +16,10 @@ use lib.Dec.{leb}
 use lib.ListN.{length}
 use lib.Pow.{pow-lt}
 use Rattle.laws.specs.Cluster.{inside, nested, single, taxa}
-use Rattle.laws.specs.Limits.{narrow}
+use Rattle.laws.specs.Limits.{narrow, wordValues}
 use Rattle.laws.specs.Lists.{every, elem}
 use Rattle.laws.proofs.Keep.{every-and}
 use Rattle.trees.specs.Tree.{children, isTree}
-use Rattle.kept.specs.View.{wordValues}
 
 -- ---- the tests in turn: where those before pass and one fails, the whole fails; where three pass, the last decides
 abbrev pub areNested : ℕ → List ℕ → Bool

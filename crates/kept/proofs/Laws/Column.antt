@@ -15,7 +15,8 @@ use lib.Seq.{ext-getD, getD-append-add, getD-append-seam}
 use Rattle.trees.specs.Rows.{Entry}
 use Rattle.trees.specs.Result.{Result}
 use Rattle.kept.specs.declared.table.Table.{Table}
-use Rattle.kept.specs.View.{rowCap, entryAt, entriesOf, column}
+use Rattle.laws.specs.Limits.{rowCap}
+use Rattle.kept.specs.View.{entryAt, entriesOf, column}
 
 pub entries-length : (t : Table) (n : ℕ) → length (entriesOf t n) ≡ n
 entries-length t zero = refl

@@ -23,16 +23,16 @@ use lib.Dec.{T, eqb, leb, ltb, eqb→eq, leb→le, le→leb, ltb→lt, lt→ltb,
 use lib.IntN.{ℤ, pos, negsuc, natAbs}
 use lib.ListN.{length, getD}
 use Rattle.laws.specs.Cluster.{inside, size, single}
-use Rattle.laws.specs.Limits.{Width, narrow, weightMax, degreeLow, degreeHigh}
-use Rattle.laws.specs.Lists.{every}
-use Rattle.laws.proofs.Falling.{Falling}
+use Rattle.laws.specs.Limits.{Width, narrow, weightMax, degreeLow, degreeHigh, rowCap}
+use Rattle.laws.specs.Lists.{every, Falling}
+use Rattle.laws.specs.Row.{Row, isScored}
 use Rattle.laws.proofs.Tests.{T-and, and-T, T-or, or-l, or-r, T-dec, eq→eqb}
 use Rattle.cluster.specs.declared.record.Record.{Record}
 use Rattle.cluster.proofs.Laws.Rule.{Keeps, kept→keeps, keeps→kept}
-use Rattle.trees.specs.Rows.{Row, Entry, cl, isScored}
+use Rattle.trees.specs.Rows.{Entry, cl}
 use Rattle.trees.specs.Result.{Result, blank}
 use Rattle.kept.specs.declared.table.Table.{Table}
-use Rattle.kept.specs.View.{rowCap, entryAt, entriesOf}
+use Rattle.kept.specs.View.{entryAt, entriesOf}
 use Rattle.kept.specs.Fit.{isZero, isBlank, isEmpty, everyMarked, isMarkedIn}
 use Rattle.kept.specs.Fit.{keepsRules, isRanged, isTold, fitEntry, fitEntries, blankFrom, isFit}
 use Rattle.kept.specs.Fitness.{isNothing, isLength, isMark, isLight, isRising}

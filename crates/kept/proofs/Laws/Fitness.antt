@@ -29,14 +29,16 @@ use mir.Facts.{toZ-ofZ, toZ-pos}
 use mir.Syntax.{Width, w64}
 use mir.Val.{SFits, toZ, ofZ}
 use Rattle.laws.specs.Cluster.{inside, size}
-use Rattle.laws.specs.Limits.{narrow, weightMax, degreeLow, degreeHigh}
+use Rattle.laws.specs.Limits.{narrow, weightMax, degreeLow, degreeHigh, rowCap, wordValues}
 use Rattle.laws.specs.Lists.{every}
+use Rattle.laws.specs.State.{scored}
+use Rattle.laws.specs.Row.{Row}
 use Rattle.laws.proofs.Tests.{T-and, and-T, T-true, T-false, true-T, bool-ext, eq→eqb}
-use Rattle.trees.specs.Rows.{Row, scored, Entry}
+use Rattle.trees.specs.Rows.{Entry}
 use Rattle.trees.specs.Result.{Result}
 use Rattle.kept.specs.declared.fitness.Fields.{Fields}
 use Rattle.kept.specs.declared.table.Table.{Table}
-use Rattle.kept.specs.View.{rowCap, wordValues, entryAt, entriesOf}
+use Rattle.kept.specs.View.{entryAt, entriesOf}
 use Rattle.kept.specs.Fit.{isZero, isBlank, isEmpty, hasMark, isTold, fitEntry, blankFrom, isFit}
 use Rattle.kept.specs.Fitness.{listedIn, resultIn, isNothing, isLight, isRising, everyBit, isMarkFit, isRowRight, hasRightRows}
 use Rattle.kept.specs.Arrays.{clustersDown, Rising}

@@ -29,9 +29,10 @@ use lib.Dec.{T, eqb, eqb→eq, T-not, not-T, lit<}
 use lib.ListN.{length, getD}
 use lib.Pow.{pow-pos, pow-mono, pow-add, shr-shr, high}
 use Rattle.laws.specs.Cluster.{inside, highest}
+use Rattle.laws.specs.Lists.{Falling}
+use Rattle.laws.specs.Limits.{wordValues}
 use Rattle.laws.proofs.Cluster.{inside-trans, has-of-inside, rest-inside, union-rest, taxon-of-union, zero-of-inside, taxon-nonzero}
 use Rattle.laws.proofs.Digits.{has-lt, pow-has}
-use Rattle.laws.proofs.Falling.{Falling}
 use Rattle.laws.proofs.Taxa.{highest-le, highest-gt}
 use Rattle.laws.proofs.Tests.{T-and, and-T, T-or, or-l, or-r, T-dec, bool-ext, eq→eqb}
 use Rattle.trees.specs.Result.{marksIn}
@@ -39,7 +40,7 @@ use Rattle.trees.specs.Rows.{cl}
 use Rattle.trees.proofs.Sets.Families.{one}
 use Rattle.trees.proofs.Ties.Marks.{marks-none}
 use Rattle.kept.specs.declared.table.Table.{Table}
-use Rattle.kept.specs.View.{wordValues, entriesOf}
+use Rattle.kept.specs.View.{entriesOf}
 use Rattle.kept.specs.Fit.{hasMark, everyMarked, isMarkedIn}
 use Rattle.kept.specs.Fitness.{everyBit}
 use Rattle.kept.specs.Arrays.{clustersDown, Rising}

@@ -21,10 +21,10 @@ use lib.Dec.{T, eqb, ltb, ltb→lt, lt→ltb}
 use lib.ListN.{getD}
 use Rattle.laws.specs.Cluster.{unionOf}
 use Rattle.laws.specs.Lists.{elem}
+use Rattle.laws.specs.Limits.{rowCap}
 use Rattle.laws.proofs.Keep.{elem→, →elem}
 use Rattle.laws.proofs.Tests.{bool-ext}
 use Rattle.kept.specs.declared.table.Table.{Table}
-use Rattle.kept.specs.View.{rowCap}
 use Rattle.kept.specs.Rows.{shownRows, placeFrom, placeOf, unionTo, hasRow}
 use Rattle.kept.specs.Arrays.{clustersDown}
 use Rattle.kept.proofs.Laws.Marks.{clusters-are, mem-clustersDown, clustersDown-mem}

@@ -14,11 +14,12 @@ use native.Mathlib.Omega.{arith}
 use lib.Dec.{T, eqb, eqb→eq}
 use lib.IntN.{pos}
 use lib.ListN.{getD, length, List·getD-eq-default}
+use Rattle.laws.specs.Limits.{rowCap, wordValues}
 use Rattle.laws.proofs.Tests.{T-and}
 use Rattle.trees.specs.Rows.{Entry}
 use Rattle.trees.specs.Result.{Result, blank}
 use Rattle.kept.specs.declared.table.Table.{Table}
-use Rattle.kept.specs.View.{rowCap, wordValues, rowAt, resultAt, entryAt, entriesOf, tableOf}
+use Rattle.kept.specs.View.{rowAt, resultAt, entryAt, entriesOf, tableOf}
 use Rattle.kept.specs.Fit.{isZero, isBlank, isEmpty, blankFrom}
 use Rattle.kept.specs.Arrays.{Sized}
 use Rattle.kept.proofs.Laws.Column.{entries-length, length-column, column-past, column-first, column-rest, column-is}

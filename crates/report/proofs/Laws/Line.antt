@@ -33,7 +33,7 @@ use mir.Facts.{toZ-ofZ}
 use mir.Syntax.{w64}
 use mir.Val.{SFits, toZ, ofZ}
 use Rattle.laws.specs.Cluster.{size}
-use Rattle.laws.specs.Limits.{narrow}
+use Rattle.laws.specs.Limits.{narrow, rowCap}
 use Rattle.laws.proofs.Tests.{true-T}
 use Rattle.cluster.specs.declared.refusal.Answer.{Answer}
 use Rattle.cluster.specs.declared.refusal.Answer.the-variants.{Done, Refused}
@@ -45,7 +45,7 @@ use Rattle.cluster.specs.Writing.{Wrote, wroteOf}
 use Rattle.cluster.proofs.Laws.Writing.{wroteOf-inj}
 use Rattle.trees.specs.Rows.{cl}
 use Rattle.kept.specs.declared.table.Table.{Table}
-use Rattle.kept.specs.View.{rowCap, rowAt, resultAt, entryAt, entriesOf}
+use Rattle.kept.specs.View.{rowAt, resultAt, entryAt, entriesOf}
 use Rattle.kept.specs.Fit.{isFit}
 use Rattle.kept.proofs.Laws.Fit.{FitRow, isFit→, fit→}
 use Rattle.table.specs.declared.making.Built.{Built}

@@ -23,7 +23,7 @@ use Rattle.cluster.specs.Bytes.{byteValues}
 use Rattle.cluster.specs.Record.{recordBytes, recordOf, hasSpare, bytesOf}
 use Rattle.cluster.proofs.Laws.Record.{recordOf-bytes}
 use Rattle.cluster.proofs.Laws.Rule.{Keeps, kept→keeps}
-use Rattle.trees.specs.Rows.{Row}
+use Rattle.laws.specs.Row.{Row}
 use Rattle.trees.specs.Rescored.{putScore}
 use Rattle.trees.proofs.Rescore.{put-cluster}
 use Rattle.table.specs.Listing.{recordsIn, bytesAt, rowIn, insertRow, rowsTo, rowsOf}

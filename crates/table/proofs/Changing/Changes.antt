@@ -12,15 +12,15 @@ use native.Mathlib.Decide.{decLt}
 use native.Mathlib.Omega.{arith}
 use borrow.Author.Tests.{eqb-true, eqb-false}
 use lib.Dec.{T, eqb, ltb, ltb→lt, lt→ltb}
+use Rattle.laws.specs.Row.{Row}
 use Rattle.laws.proofs.Tests.{T-and, and-T}
-use Rattle.trees.specs.Rows.{Row}
 use Rattle.table.specs.Listing.{recordsIn, rowIn}
 use Rattle.table.specs.Rescore.{isScore}
 use Rattle.table.specs.Changes.{HasCluster, firstPlace, isTaken, changedBytes, changeOne, changeAll}
 use Rattle.table.proofs.Laws.Accepted.{Accepted}
 use Rattle.table.proofs.Changing.Changed.{changed-bytes, changed-accepted}
 use Rattle.table.proofs.Changing.Rewritten.{Bytes}
-use Rattle.table.proofs.Laws.Scan.{first-before, first-at}
+use Rattle.laws.proofs.First.{first-before, first-at}
 
 module _ (l : List ℕ) (c : ℕ) where
   abbrev named : ℕ → Bool

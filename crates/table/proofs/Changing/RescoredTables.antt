@@ -21,12 +21,13 @@ use lib.IntN.{ℤ}
 use lib.ListN.{length, length-map}
 use Rattle.laws.specs.Cluster.{inside}
 use Rattle.laws.specs.Limits.{narrow}
+use Rattle.laws.specs.Row.{Row}
 use Rattle.cluster.specs.declared.refusal.Answer.{Answer}
 use Rattle.cluster.specs.declared.refusal.Refusal.{Refusal}
 use Rattle.cluster.specs.declared.refusal.Refusal.the-variants.{NoBytes, WrongLength, TooLong, DegreeOut, BadRecord, Repeated}
 use Rattle.cluster.specs.declared.refusal.Refusal.the-variants.{NoTree, Unfit, NoRow, BadScore, NoRoom}
 use Rattle.cluster.proofs.Laws.Refusal.{sentOf-inj}
-use Rattle.trees.specs.Rows.{Row, Entry, cl}
+use Rattle.trees.specs.Rows.{Entry, cl}
 use Rattle.trees.specs.Result.{Result}
 use Rattle.trees.specs.Rescored.{workedOut, putScore, againIf, again, rescored}
 use Rattle.trees.proofs.Rescore.{put-cluster, put-other, rescored-clusters}

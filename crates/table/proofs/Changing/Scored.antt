@@ -18,13 +18,13 @@ use lib.IntN.{ℤ, pos}
 use lib.ListN.{getD, set, length-set}
 use lib.Seq.{getD-set-same, getD-set-other}
 use Rattle.laws.specs.Cluster.{inside}
-use Rattle.laws.specs.Limits.{narrow}
+use Rattle.laws.specs.Limits.{narrow, rowCap, wordValues}
 use Rattle.laws.proofs.Cluster.{inside-refl}
 use Rattle.trees.specs.Rows.{Entry}
 use Rattle.trees.specs.Result.{Result}
 use Rattle.trees.specs.Rescored.{putScore, workedOut, again}
 use Rattle.kept.specs.declared.table.Table.{Table}
-use Rattle.kept.specs.View.{rowCap, wordValues, rowAt, entryAt, entriesOf, tableOf}
+use Rattle.kept.specs.View.{rowAt, entryAt, entriesOf, tableOf}
 use Rattle.kept.specs.Fit.{keepsRules, fitEntry, isEmpty, isFit}
 use Rattle.kept.specs.Rows.{placeOf, hasRow}
 use Rattle.kept.specs.Arrays.{Sized}

@@ -14,11 +14,12 @@ use native.Mathlib.Omega.{arith}
 use lib.Dec.{T}
 use lib.ListN.{length}
 use Rattle.laws.specs.Cluster.{inside}
-use Rattle.laws.specs.Limits.{Width}
-use Rattle.laws.proofs.Choose.{few, few-mono}
-use Rattle.laws.proofs.Falling.{Falling}
+use Rattle.laws.specs.Limits.{Width, few}
+use Rattle.laws.specs.Lists.{Falling}
+use Rattle.laws.specs.Row.{Row}
+use Rattle.laws.proofs.Choose.{few-mono}
 use Rattle.laws.proofs.Tests.{T-dec, T-true, T-false}
-use Rattle.trees.specs.Rows.{Row, Entry, cl}
+use Rattle.trees.specs.Rows.{Entry, cl}
 use Rattle.trees.specs.Result.{Result}
 use Rattle.trees.specs.Rescored.{workedOut, againIf, again}
 use Rattle.kept.specs.Fit.{keepsRules, fitEntry}

@@ -17,19 +17,20 @@ use lib.Dec.{T, eqb, lit≤}
 use lib.IntN.{ℤ}
 use lib.ListN.{length, length-map}
 use Rattle.laws.specs.Cluster.{inside}
-use Rattle.laws.specs.Limits.{narrow, degreeLow, degreeHigh}
+use Rattle.laws.specs.Limits.{narrow, degreeLow, degreeHigh, rowCap}
+use Rattle.laws.specs.Lists.{Falling}
+use Rattle.laws.specs.Row.{Row}
 use Rattle.laws.proofs.Appended.{map-through}
 use Rattle.laws.proofs.Cluster.{zero-inside}
-use Rattle.laws.proofs.Falling.{Falling}
 use Rattle.cluster.proofs.Laws.Rule.{Keeps, kept→keeps}
-use Rattle.trees.specs.Rows.{Row, Entry, cl}
+use Rattle.trees.specs.Rows.{Entry, cl}
 use Rattle.trees.specs.Result.{Result, blank}
 use Rattle.trees.specs.Built.{builtTable}
 use Rattle.trees.specs.Rescored.{putScore, workedOut, again, rescored}
 use Rattle.trees.proofs.Rescore.{put-cluster, put-other, again-clusters}
 use Rattle.trees.proofs.Bounds.TupleBound.{few-narrow}
 use Rattle.kept.specs.declared.table.Table.{Table}
-use Rattle.kept.specs.View.{rowCap, entryAt, entriesOf, tableOf}
+use Rattle.kept.specs.View.{entryAt, entriesOf, tableOf}
 use Rattle.kept.specs.Fit.{keepsRules, fitEntry, isFit}
 use Rattle.table.specs.Arranged.{unworked}
 use Rattle.table.specs.Rescore.{isScore, newTable}

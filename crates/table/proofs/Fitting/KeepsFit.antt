@@ -20,18 +20,18 @@ use lib.IntN.{natAbs}
 use lib.ListN.{length, length-map}
 use lib.Pow.{pow-pos}
 use Rattle.laws.specs.Cluster.{inside, single}
-use Rattle.laws.specs.Limits.{Width, weightMax}
-use Rattle.laws.specs.Lists.{keep}
-use Rattle.laws.proofs.Choose.{few, few-mono}
-use Rattle.laws.proofs.Falling.{Falling}
+use Rattle.laws.specs.Limits.{Width, weightMax, few}
+use Rattle.laws.specs.Lists.{keep, Falling}
+use Rattle.laws.specs.Row.{Row, isScored}
+use Rattle.laws.proofs.Choose.{few-mono}
 use Rattle.laws.proofs.Keep.{mem-of-keep, length-keep-le, keep-all}
-use Rattle.trees.specs.Rows.{Row, isScored, Entry, cl, sc}
+use Rattle.trees.specs.Rows.{Entry, cl, sc}
 use Rattle.trees.specs.Tuple.{tuples}
 use Rattle.trees.specs.Result.{Result, blank, countField, markField}
 use Rattle.trees.specs.Rescored.{keyOf, firstKey, isLive, joined, alone, workedOut}
-use Rattle.trees.proofs.Counting.Capped.{Res, encode, encodeSol, Counted, second, past, count-small, count-large}
-use Rattle.trees.proofs.Counting.Keys.{Sol, solKind}
-use Rattle.trees.proofs.Formula.Kind.{mapE, overTuples, valueIf}
+use Rattle.trees.specs.Kind.{overTuples, valueIf, Sol, solKind, Res}
+use Rattle.trees.proofs.Counting.Capped.{encode, encodeSol, Counted, second, past, count-small, count-large}
+use Rattle.trees.proofs.Formula.Kind.{mapE}
 use Rattle.trees.proofs.Ties.Marks.{marks-lt, marks-inj}
 use Rattle.trees.proofs.Bounds.TupleBound.{entries-le}
 use Rattle.trees.proofs.Counting.Worked.{markIn, lengthIf, trueResult, AllCounted, worked-encode}

@@ -18,7 +18,8 @@ use native.Mathlib.Omega.{arith}
 use lib.Dec.{T}
 use lib.ListN.{length, getD, length-map}
 use Rattle.laws.specs.Cluster.{inside}
-use Rattle.laws.specs.Limits.{narrow, degreeLow, degreeHigh}
+use Rattle.laws.specs.Limits.{narrow, degreeLow, degreeHigh, rowCap}
+use Rattle.laws.specs.Row.{Row}
 use Rattle.laws.proofs.Appended.{map-through}
 use Rattle.laws.proofs.Cluster.{zero-inside}
 use Rattle.laws.proofs.Tests.{T-true}
@@ -30,15 +31,14 @@ use Rattle.cluster.specs.Bytes.{byteValues}
 use Rattle.cluster.specs.Record.{recordBytes}
 use Rattle.cluster.specs.Refusal.{sentOf}
 use Rattle.cluster.proofs.Laws.Refusal.{sentOf-inj}
-use Rattle.trees.specs.Rows.{Row, Entry, clustersOf, cl}
+use Rattle.trees.specs.Rows.{Entry, clustersOf, cl, RowFacts}
 use Rattle.trees.specs.Result.{Result, blank}
 use Rattle.trees.specs.Built.{builtTable}
 use Rattle.trees.specs.Rescored.{workedOut, againIf, again}
-use Rattle.trees.proofs.Formula.Kind.{tableOf as workedFrom}
-use Rattle.trees.proofs.Formula.Rows.{RowFacts}
+use Rattle.trees.specs.Kind.{workedFrom}
 use Rattle.trees.proofs.Built.{worked-is-built}
 use Rattle.kept.specs.declared.table.Table.{Table}
-use Rattle.kept.specs.View.{rowCap, rowAt, entryAt, tableOf}
+use Rattle.kept.specs.View.{rowAt, entryAt, tableOf}
 use Rattle.kept.specs.Fit.{keepsRules}
 use Rattle.kept.specs.Arrays.{clustersDown, Rising}
 use Rattle.kept.proofs.Laws.Column.{mem-entries}
@@ -52,7 +52,7 @@ use Rattle.table.specs.Listing.{rowIn, badFrom, repeats, repeatFrom, row
 use Rattle.table.specs.Working.{againTable, Workable}
 use Rattle.table.specs.Arranged.{rowFrom, ReadTo, HasClusters, Ordered, Within, unworked, arrangedTable, Makeable}
 use Rattle.table.specs.Build.{Making, makingOf, refusalOf, refusedBuild, madeOf, buildTable}
-use Rattle.table.proofs.Laws.Scan.{first-before, first-high}
+use Rattle.laws.proofs.First.{first-before, first-high}
 use Rattle.table.proofs.Laws.Listing.{breaks, bad-is, repeat-is, rows-length, row-rules, row-facts}
 use Rattle.table.proofs.Laws.Refused.{record-bad, record-repeated, record-none}
 

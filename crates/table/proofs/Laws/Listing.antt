@@ -18,8 +18,8 @@ use lib.Dec.{T, eqb, ltb, lt→ltb}
 use lib.ListN.{length, getD, take, drop, length-take, List·getD-eq-default}
 use lib.Seq.{getD-take, getD-drop}
 use Rattle.laws.specs.Limits.{narrow}
-use Rattle.laws.specs.Lists.{elem}
-use Rattle.laws.proofs.Falling.{Falling}
+use Rattle.laws.specs.Lists.{elem, Falling, firstFrom}
+use Rattle.laws.specs.Row.{Row}
 use Rattle.laws.proofs.Keep.{→elem}
 use Rattle.laws.proofs.Tests.{and-T, true-T}
 use Rattle.cluster.specs.Bytes.{byteValues, wordBytes}
@@ -28,11 +28,9 @@ use Rattle.cluster.specs.Rule.{brokenRule, isKept}
 use Rattle.cluster.specs.Reading.{ruleOf}
 use Rattle.cluster.proofs.Laws.Bytes.{numberAt-lt}
 use Rattle.cluster.proofs.Laws.Rule.{Keeps, kept→keeps}
-use Rattle.trees.specs.Rows.{Row, clustersOf}
-use Rattle.trees.proofs.Formula.Rows.{RowFacts}
+use Rattle.trees.specs.Rows.{clustersOf, RowFacts}
 use Rattle.kept.specs.Fit.{keepsRules}
 use Rattle.table.specs.Listing.{bytesAt, rowIn, badFrom, clustersTo, repeats, repeatFrom, rowsTo}
-use Rattle.table.specs.Changes.{firstFrom}
 use Rattle.table.proofs.Laws.Insert.{mem-insert, insert-here, insert-there, insert-length, elem-insert, insert-falls}
 
 -- ---- refusals 5 and 6

@@ -20,17 +20,17 @@ use lib.Seq.{getD-set-same, getD-set-other}
 use mir.Syntax.{w32}
 use mir.Val.{SFits}
 use Rattle.laws.specs.Cluster.{inside}
-use Rattle.laws.specs.Limits.{narrow, weightMax}
-use Rattle.laws.proofs.Choose.{few}
-use Rattle.laws.proofs.Falling.{Falling}
+use Rattle.laws.specs.Limits.{narrow, weightMax, few, wordValues}
+use Rattle.laws.specs.Lists.{Falling}
+use Rattle.laws.specs.Row.{Row}
 use Rattle.laws.proofs.Integers.{mag-le-abs}
 use Rattle.cluster.proofs.Laws.Rule.{Keeps}
-use Rattle.trees.specs.Rows.{Row, Entry, cl}
+use Rattle.trees.specs.Rows.{Entry, cl}
 use Rattle.trees.specs.Result.{Result}
 use Rattle.trees.specs.Rescored.{ownMark, workedOut, againIf, again}
 use Rattle.trees.proofs.Bounds.TupleBound.{few-narrow}
 use Rattle.kept.specs.declared.table.Table.{Table}
-use Rattle.kept.specs.View.{wordValues, rowAt, entryAt, entriesOf, tableOf}
+use Rattle.kept.specs.View.{rowAt, entryAt, entriesOf, tableOf}
 use Rattle.kept.specs.Fit.{isEmpty, keepsRules, fitEntry}
 use Rattle.kept.specs.Arrays.{clustersDown, Rising, Sized}
 use Rattle.kept.proofs.Laws.Column.{entries-length, entries-mem, mem-entries}

@@ -13,10 +13,11 @@ use lib.IntN.{pos, _+ℤ_}
 use lib.ListN.{length, length-map}
 use Rattle.laws.specs.Cluster.{single}
 use Rattle.laws.specs.Limits.{Width}
-use Rattle.laws.specs.Lists.{keepIf, keep, sublists, some as any}
+use Rattle.laws.specs.Lists.{keepIf, keep, sublists, any}
+use Rattle.laws.specs.Row.{Row, isScored}
 use Rattle.laws.proofs.Keep.{keep-ext, keep-map}
 use Rattle.laws.proofs.Sublists.{sublists-map}
-use Rattle.trees.specs.Rows.{Row, isScored, cl, sc}
+use Rattle.trees.specs.Rows.{cl, sc}
 use Rattle.trees.specs.Tuple.{isTuple, tuples}
 use Rattle.trees.specs.Result.{Result, blank}
 use Rattle.trees.specs.Rescored.{Beneath, timesCounts, sumCounts, isLive, isMarked, isMany}

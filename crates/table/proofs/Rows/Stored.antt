@@ -14,7 +14,8 @@ use lib.Seq.{getD-set-same, getD-set-other}
 use Rattle.trees.specs.Rows.{Entry}
 use Rattle.trees.specs.Result.{Result}
 use Rattle.kept.specs.declared.table.Table.{Table}
-use Rattle.kept.specs.View.{rowCap, wordValues, rowAt, entryAt, entriesOf}
+use Rattle.laws.specs.Limits.{rowCap, wordValues}
+use Rattle.kept.specs.View.{rowAt, entryAt, entriesOf}
 use Rattle.kept.specs.Arrays.{Sized}
 use Rattle.table.specs.declared.tally.Tally.{Tally}
 

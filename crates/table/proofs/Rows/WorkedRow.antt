@@ -22,23 +22,25 @@ use lib.ListN.{length, length-map, getD}
 use mir.Syntax.{w64}
 use mir.Val.{SFits}
 use Rattle.laws.specs.Cluster.{size, single, highest}
-use Rattle.laws.specs.Limits.{Width, narrow, weightMax}
+use Rattle.laws.specs.Limits.{Width, narrow, weightMax, wordValues}
 use Rattle.laws.specs.Lists.{keep, sublists}
+use Rattle.laws.specs.State.{scored}
+use Rattle.laws.specs.Row.{Row, isScored}
 use Rattle.laws.proofs.Keep.{keep-map, keep-all, mem-of-keep}
 use Rattle.laws.proofs.Sublists.{mem-of-sublist}
 use Rattle.laws.proofs.Taxa.{size-pos, highest-le, highest-gt}
 use Rattle.laws.proofs.Tests.{T-true, T-false}
-use Rattle.trees.specs.Rows.{Row, isScored, scored, Entry, cl, sc}
+use Rattle.trees.specs.Rows.{Entry, cl, sc}
 use Rattle.trees.specs.Tuple.{isTuple, tuples}
 use Rattle.trees.specs.Result.{Result, blank}
 use Rattle.trees.specs.Rescored.{Key, keyOf, firstKey, isLive, ownMark, joined, alone, together, workedOut}
-use Rattle.trees.proofs.Counting.Capped.{Res, encode, count-small, second}
-use Rattle.trees.proofs.Searching.Covers.{coversOf, tuples-are-covers}
+use Rattle.trees.specs.Kind.{prodK, overTuples, valueIf, Sol, plusSol, timesSol, countKind, solKind, Res}
+use Rattle.trees.specs.Cover.{coversOf}
+use Rattle.trees.proofs.Counting.Capped.{encode, count-small, second}
+use Rattle.trees.proofs.Searching.Covers.{tuples-are-covers}
 use Rattle.trees.proofs.Sets.Families.{one, Disj}
-use Rattle.trees.proofs.Counting.Keys.{Sol, plusSol, timesSol, countKind, solKind}
-use Rattle.trees.proofs.Formula.Kind.{prodK, overTuples, valueIf, tuples-map, hom-sum, hom-second}
+use Rattle.trees.proofs.Formula.Kind.{tuples-map, hom-sum, hom-second}
 use Rattle.trees.proofs.Counting.Worked.{markIn, lengthIf, trueResult}
-use Rattle.kept.specs.View.{wordValues}
 use Rattle.kept.specs.Arrays.{clustersDown}
 use Rattle.kept.proofs.Laws.Marks.{mem-clustersDown, mark-down, highest-lt}
 use Rattle.table.specs.declared.tally.Tally.{Tally}

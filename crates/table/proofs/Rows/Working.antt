@@ -12,7 +12,7 @@ use native.Mathlib.Omega.{arith}
 use lib.IntN.{ℤ}
 use lib.Pow.{pow-lt, pow-add, high, low}
 use borrow.Author.Tests.{lt-ltb, le-ltb}
-use Rattle.kept.specs.View.{wordValues}
+use Rattle.laws.specs.Limits.{wordValues}
 use Rattle.table.specs.declared.tally.Tally.{Tally}
 use Rattle.table.specs.Tally.{lowMark, highMark, ownTally}
 

@@ -18,9 +18,9 @@ use Rattle.laws.proofs.Keep.{mem-of-keep, length-keep-le}
 use Rattle.laws.proofs.Sublists.{mem-of-sublist}
 use Rattle.trees.specs.Rows.{Entry, cl, sc}
 use Rattle.trees.specs.Tuple.{allApart}
-use Rattle.trees.proofs.Counting.Capped.{Res}
-use Rattle.trees.proofs.Searching.Covers.{cover→, isCover, coversOf, takeIf, chosen, chosen-is}
-use Rattle.trees.proofs.Counting.Keys.{countKind, solKind}
+use Rattle.trees.specs.Kind.{countKind, solKind, Res}
+use Rattle.trees.specs.Cover.{isCover, coversOf}
+use Rattle.trees.proofs.Searching.Covers.{cover→, takeIf, chosen, chosen-is}
 use Rattle.trees.proofs.Formula.Kind.{hom-second}
 use Rattle.table.specs.Searched.{sumKind, sumCovers}
 use Rattle.table.proofs.Tuples.Searched.{sumCovers-over}

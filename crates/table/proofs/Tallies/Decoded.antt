@@ -18,15 +18,15 @@ use native.Mathlib.Omega.{arith}
 use borrow.Author.Tests.{eq-eqb, ne-eqb}
 use lib.Dec.{T}
 use Rattle.laws.specs.Cluster.{inside}
-use Rattle.laws.specs.Limits.{Width}
+use Rattle.laws.specs.Limits.{Width, wordValues}
+use Rattle.laws.specs.Lists.{Falling}
+use Rattle.laws.specs.Row.{Row}
 use Rattle.laws.proofs.Cluster.{le-of-inside}
-use Rattle.laws.proofs.Falling.{Falling}
 use Rattle.laws.proofs.Taxa.{size-pos}
 use Rattle.trees.specs.Result.{Result, countField, markField}
-use Rattle.trees.specs.Rows.{Row, Entry}
-use Rattle.trees.proofs.Counting.Keys.{Sol}
-use Rattle.trees.proofs.Counting.Capped.{Res, encode, encodeSol, count-small, count-large}
-use Rattle.kept.specs.View.{wordValues}
+use Rattle.trees.specs.Rows.{Entry}
+use Rattle.trees.specs.Kind.{Sol, Res}
+use Rattle.trees.proofs.Counting.Capped.{encode, encodeSol, count-small, count-large}
 use Rattle.kept.specs.Fit.{isMarkedIn, fitEntry}
 use Rattle.kept.proofs.Laws.Fit.{Told, told→, →told, fit→}
 use Rattle.table.specs.Tally.{tallyWith, tallyOf, fieldsTally, decoded}

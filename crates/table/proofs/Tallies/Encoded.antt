@@ -14,12 +14,12 @@ use native.Mathlib.Omega.{arith}
 use lib.Dec.{ltb, ltb→lt, lt→ltb}
 use lib.IntN.{ℤ, _+ℤ_}
 use lib.Signed.{ltZ}
+use Rattle.laws.specs.Limits.{wordValues}
 use Rattle.laws.proofs.Tests.{bool-ext}
 use Rattle.trees.specs.Result.{countField, markField}
 use Rattle.trees.specs.Rescored.{keyFirst}
-use Rattle.trees.proofs.Counting.Keys.{Sol, plusSol, timesSol}
-use Rattle.trees.proofs.Counting.Capped.{Res, trueCount, Counted}
-use Rattle.kept.specs.View.{wordValues}
+use Rattle.trees.specs.Kind.{Sol, plusSol, timesSol, Res}
+use Rattle.trees.proofs.Counting.Capped.{trueCount, Counted}
 use Rattle.table.specs.declared.tally.Count.{Count}
 use Rattle.table.specs.declared.tally.Tally.{Tally}
 use Rattle.table.specs.Tally.{tallyWith, tallyOf, noTally, exactCount, plusCounts, timesCounts}

@@ -35,10 +35,10 @@ use Rattle.trees.specs.Result.{marksIn}
 use Rattle.trees.specs.Rescored.{keyFirst}
 use Rattle.trees.specs.Rows.{Entry, cl}
 use Rattle.trees.specs.Tuple.{allApart}
+use Rattle.trees.specs.Kind.{Kind, prodK, overTuples, Sol, plusSol, timesSol, solKind, Res}
 use Rattle.trees.proofs.Sets.Families.{Fam, join, empty, Disj}
-use Rattle.trees.proofs.Formula.Kind.{Kind, prodK, overTuples, Hom}
-use Rattle.trees.proofs.Counting.Keys.{Sol, plusSol, timesSol, solKind}
-use Rattle.trees.proofs.Counting.Capped.{Res, Counted}
+use Rattle.trees.proofs.Formula.Kind.{Hom}
+use Rattle.trees.proofs.Counting.Capped.{Counted}
 use Rattle.trees.proofs.Ties.Marks.{marks-none, marks-join}
 use Rattle.table.specs.Searched.{sumKind}
 

@@ -20,14 +20,13 @@ use lib.Pow.{pow-mono}
 use mir.Syntax.{w64}
 use mir.Val.{SFits}
 use Rattle.laws.specs.Cluster.{inside, size}
-use Rattle.laws.specs.Limits.{weightMax}
+use Rattle.laws.specs.Limits.{weightMax, rowCap, wordValues}
 use Rattle.laws.proofs.Integers.{abs-sum-le, mag-le-abs}
 use Rattle.laws.proofs.Taxa.{size-part}
 use Rattle.trees.specs.Result.{marksIn}
+use Rattle.trees.specs.Kind.{Sol}
 use Rattle.trees.proofs.Sets.Families.{Fam, join, empty, Disj}
-use Rattle.trees.proofs.Counting.Keys.{Sol}
 use Rattle.trees.proofs.Ties.Marks.{marks-lt, marks-none, marks-join, no-carry}
-use Rattle.kept.specs.View.{rowCap, wordValues}
 use Rattle.table.specs.declared.tally.Tally.{Tally}
 use Rattle.table.specs.Tally.{tallyWith}
 use Rattle.table.proofs.Tallies.Encoded.{Clear}

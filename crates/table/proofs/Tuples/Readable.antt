@@ -19,12 +19,14 @@ use native.Mathlib.Nat.{le-refl}
 use native.Mathlib.Omega.{arith}
 use lib.Dec.{T, eqb→eq}
 use lib.ListN.{getD}
+use Rattle.laws.specs.State.{scored}
+use Rattle.laws.specs.Limits.{wordValues}
+use Rattle.laws.specs.Row.{isScored}
 use Rattle.laws.proofs.Descends.{Descends}
 use Rattle.laws.proofs.Tests.{T-true, T-false, eq→eqb}
-use Rattle.trees.specs.Rows.{scored, isScored, Entry, cl, sc}
-use Rattle.trees.proofs.Counting.Capped.{Res}
+use Rattle.trees.specs.Rows.{Entry, cl, sc}
+use Rattle.trees.specs.Kind.{Res}
 use Rattle.trees.proofs.Searching.Search.{lookup, lookup-row, lookup-missing, search-one}
-use Rattle.kept.specs.View.{wordValues}
 use Rattle.kept.proofs.Laws.Marks.{rising-part}
 use Rattle.table.specs.Tally.{tallyOf, noTally, decoded}
 use Rattle.table.specs.Searched.{Columns, rowOf, fieldsOf, partAt, partTally, partsOf, sumKind, sumCovers}

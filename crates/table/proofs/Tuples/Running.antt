@@ -16,13 +16,14 @@ use native.Mathlib.Omega.{arith}
 use lib.Dec.{T}
 use lib.ListN.{getD}
 use Rattle.laws.specs.Cluster.{inside, highest}
+use Rattle.laws.specs.Limits.{wordValues}
 use Rattle.laws.proofs.Descends.{Descends}
 use Rattle.trees.specs.Rows.{Entry, cl, sc}
-use Rattle.trees.proofs.Counting.Capped.{Res, Counted}
+use Rattle.trees.specs.Kind.{Res}
+use Rattle.trees.proofs.Counting.Capped.{Counted}
 use Rattle.trees.proofs.Searching.Leads.{leads}
 use Rattle.trees.proofs.Counting.Worked.{counted-plus}
 use Rattle.trees.proofs.Searching.Search.{scan, gain, search-more, scan-ended, scan-cons, scan-added, scan-unscored, scan-outside, scan-low}
-use Rattle.kept.specs.View.{wordValues}
 use Rattle.table.specs.declared.tally.Tally.{Tally}
 use Rattle.table.specs.Tally.{tallyOf, noTally, plusTally}
 use Rattle.table.specs.Searched.{Columns, partAt, partsOf, sumKind, sumCovers, Searchable}

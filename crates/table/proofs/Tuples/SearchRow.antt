@@ -21,15 +21,15 @@ use lib.Pow.{pow-mono}
 use mir.Syntax.{w64}
 use mir.Val.{SFits}
 use Rattle.laws.specs.Cluster.{inside, highest}
+use Rattle.laws.specs.Limits.{wordValues}
 use Rattle.laws.proofs.Cluster.{le-of-inside}
 use Rattle.laws.proofs.Taxa.{highest-le, highest-gt}
 use Rattle.laws.proofs.Tests.{true-T}
 use Rattle.trees.specs.Rows.{Entry, sc}
-use Rattle.trees.proofs.Counting.Capped.{Res, Counted}
-use Rattle.trees.proofs.Counting.Keys.{timesSol}
+use Rattle.trees.specs.Kind.{timesSol, Res}
+use Rattle.trees.proofs.Counting.Capped.{Counted}
 use Rattle.trees.proofs.Searching.Leads.{leads, leads-of-reach}
 use Rattle.trees.proofs.Searching.Search.{gain, gain-whole, gain-part}
-use Rattle.kept.specs.View.{wordValues}
 use Rattle.table.specs.declared.tally.Tally.{Tally}
 use Rattle.table.specs.Tally.{tallyOf, underTally}
 use Rattle.table.specs.Searched.{Columns, partAt, partTally, partsOf, sumKind, sumCovers, Below, Searchable}

@@ -13,11 +13,11 @@ use native.Mathlib.Omega.{arith}
 use lib.Dec.{T}
 use lib.ListN.{getD}
 use Rattle.laws.specs.Cluster.{highest}
+use Rattle.laws.specs.Limits.{wordValues}
 use Rattle.laws.proofs.Descends.{Descends}
 use Rattle.laws.proofs.Taxa.{highest-le}
 use Rattle.trees.specs.Rows.{Entry, cl, sc}
-use Rattle.trees.proofs.Counting.Capped.{Res}
-use Rattle.kept.specs.View.{wordValues}
+use Rattle.trees.specs.Kind.{Res}
 use Rattle.kept.proofs.Laws.Marks.{highest-lt}
 use Rattle.table.specs.Searched.{Columns, partsOf, sumCovers, Past, Searchable}
 use Rattle.table.proofs.Tuples.Searched.{parts-length}

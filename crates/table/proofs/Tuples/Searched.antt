@@ -26,10 +26,10 @@ use Rattle.laws.specs.Lists.{keepIf, keep}
 use Rattle.laws.proofs.Descends.{Descends}
 use Rattle.laws.proofs.Tests.{T-false}
 use Rattle.trees.specs.Rows.{Entry, cl, sc}
-use Rattle.trees.proofs.Counting.Capped.{Res}
-use Rattle.trees.proofs.Searching.Covers.{coversOf}
-use Rattle.trees.proofs.Counting.Keys.{countKind, solKind, count-lawful, sol-lawful}
-use Rattle.trees.proofs.Formula.Kind.{overTuples, Lawful, pair-lawful}
+use Rattle.trees.specs.Kind.{overTuples, countKind, solKind, Res}
+use Rattle.trees.specs.Cover.{coversOf}
+use Rattle.trees.proofs.Counting.Keys.{count-lawful, sol-lawful}
+use Rattle.trees.proofs.Formula.Kind.{Lawful, pair-lawful}
 use Rattle.trees.proofs.Searching.Leads.{within, coversOf-scored}
 use Rattle.trees.proofs.Searching.Search.{search}
 use Rattle.trees.proofs.Searching.SearchSum.{search-is}

@@ -16,13 +16,14 @@ use lib.Dec.{T, T-not}
 use lib.IntN.{natAbs, +ℤ-idr}
 use lib.ListN.{length}
 use Rattle.laws.specs.Cluster.{size}
-use Rattle.laws.specs.Lists.{keep}
-use Rattle.laws.proofs.Falling.{Falling, sublist-is-elem}
+use Rattle.laws.specs.Lists.{keep, Falling}
+use Rattle.laws.specs.Row.{Row}
+use Rattle.laws.proofs.Falling.{sublist-is-elem}
 use Rattle.laws.proofs.Integers.{abs-sum-le}
 use Rattle.laws.proofs.Laminar.{Measure, count-measure, Laminar, laminar-le}
 use Rattle.laws.proofs.Tests.{T-and, T-dec, T-true, T-false, or-split}
 use Rattle.trees.specs.Heaviest.{weightIn, weightOf}
-use Rattle.trees.specs.Rows.{Row, clustersOf}
+use Rattle.trees.specs.Rows.{clustersOf}
 use Rattle.trees.specs.Tree.{treesOn}
 use Rattle.trees.proofs.Sets.Families.{Fam}
 use Rattle.trees.proofs.Ties.Marks.{weight-ext, weight-none, weight-join}

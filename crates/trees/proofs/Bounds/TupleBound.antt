@@ -2,27 +2,27 @@
 --     tuples-le-other                  out of a list of clusters that has C itself, which is in no tuple
 --     entries-le                       tuples of entries
 --     row-length-le                    the row length of a row among rows
---     few-narrow, few-wide             in numbers, for 128 and for 256 rows
---     row-length-narrow                no row of 128 is longer than the limit
+--     row-length-most                  no row is longer than the limit of the width
 -- Assumes nothing.
-use mathlib.Core.Path.{refl, _∙_, subst}
+use mathlib.Core.Path.{refl, _∙_}
 use mathlib.Core.Logic.{_≢_}
 use mathlib.Core.Bool.{Bool, true, false, not, cond, _&&_}
-use mathlib.Core.List.{List, map, Memᴰ·map, Memᴰ·of-map}
-use mathlib.Core.List.{List·Memᴰ as Mem}
-use Prim.Native.Nat.{ℕ, _-_, _≤_, _<_, zero-le}
+use mathlib.Core.List.{List, [], _∷_, map, Memᴰ·map, Memᴰ·of-map}
+use mathlib.Core.List.{List·Memᴰ as Mem, List·Memᴰ·not-nil as mem-nil}
+use Prim.Native.Nat.{ℕ, _-_, _≤_, zero-le}
 use native.Mathlib.Nat.{le-refl, le-trans}
 use native.Mathlib.Omega.{arith}
 use lib.Dec.{T, eqb}
 use lib.ListN.{length, length-map}
 use Rattle.laws.specs.Cluster.{single}
-use Rattle.laws.specs.Limits.{narrow, degreeHigh}
+use Rattle.laws.specs.Limits.{Width, degreeHigh, few, WidthFacts}
 use Rattle.laws.specs.Lists.{keep, sublists}
-use Rattle.laws.proofs.Choose.{few, few-mono, fewFour, few-four, Sized, few-le, few-le-other}
+use Rattle.laws.specs.Row.{Row, isScored}
+use Rattle.laws.proofs.Choose.{few-mono, Sized, few-le, few-le-other}
 use Rattle.laws.proofs.Keep.{mem-keep, mem-of-keep, length-keep-le}
 use Rattle.laws.proofs.Sublists.{mem-of-sublist}
 use Rattle.laws.proofs.Tests.{T-and, neq→, →neq}
-use Rattle.trees.specs.Rows.{Row, isScored, scoredIn, Entry, cl}
+use Rattle.trees.specs.Rows.{scoredIn, Entry, cl}
 use Rattle.trees.specs.Tuple.{isTuple, tuples}
 use Rattle.trees.specs.Built.{rowLength}
 use Rattle.trees.proofs.Sets.Tuples.{tuple→, part-other}
@@ -77,15 +77,10 @@ row-length-le d rs r nz m = go (isScored r && not (single (r .cluster))) (λ t. 
 
 -- ---- in numbers
 
-few-high : (d n N : ℕ) → d ≤ degreeHigh → n ≤ N → few n (d - 1) ≤ fewFour N
-few-high d n N h k = subst (λ (x : ℕ). few n (d - 1) ≤ x) (few-four N) (few-mono n N (d - 1) 4 k (omega arith))
-
-pub few-narrow : (d n : ℕ) → d ≤ degreeHigh → n < narrow .rows → few n (d - 1) ≤ narrow .lengthMax
-few-narrow d n h k = few-high d n 127 h (omega arith)
-
-pub few-wide : (d n : ℕ) → d ≤ degreeHigh → n < 256 → few n (d - 1) ≤ 174825025
-few-wide d n h k = few-high d n 255 h (omega arith)
-
-pub row-length-narrow : (d : ℕ) (rs : List Row) (r : Row) → ((x : Row) → Mem x rs → x .cluster ≢ 0) → Mem r rs
-    → d ≤ degreeHigh → length rs ≤ narrow .rows → rowLength d rs r ≤ narrow .lengthMax
-row-length-narrow d rs r nz m h k = le-trans (row-length-le d rs r nz m) (few-narrow d (length rs - 1) h (omega arith))
+pub row-length-most : (W : Width) → WidthFacts W → (d : ℕ) (rs : List Row) (r : Row) → ((x : Row) → Mem x rs → x .cluster ≢ 0) → Mem r rs
+    → d ≤ degreeHigh → length rs ≤ W .rows → rowLength d rs r ≤ W .lengthMax
+row-length-most W facts d rs r nz m h k = le-trans (row-length-le d rs r nz m) (facts .tuples d (length rs - 1) h (omega (arith, some rs m)))
+  where
+    some : (qs : List Row) → Mem r qs → 1 ≤ length qs
+    some [] i = absurd (mem-nil i)
+    some (q ∷ qs) i = omega arith

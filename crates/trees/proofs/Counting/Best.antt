@@ -16,23 +16,24 @@ use lib.Dec.{T, eqb→eq}
 use lib.IntN.{pos}
 use lib.ListN.{length}
 use Rattle.laws.specs.Cluster.{inside, single}
-use Rattle.laws.specs.Lists.{keep}
-use Rattle.laws.proofs.Falling.{Falling}
+use Rattle.laws.specs.Lists.{keep, Falling}
+use Rattle.laws.specs.Row.{Row, isScored}
 use Rattle.laws.proofs.Tests.{T-or}
 use Rattle.laws.proofs.Cluster.{inside-antisym, zero-of-apart, apart-of-inside}
-use Rattle.trees.specs.Rows.{Row, isScored, clustersOf, scoredIn, Entry, cl, sc}
+use Rattle.trees.specs.Rows.{clustersOf, scoredIn, Entry, cl, sc, RowFacts}
 use Rattle.trees.specs.Tree.{treesOn}
 use Rattle.trees.specs.Tuple.{allApart, isTuple, tuples}
+use Rattle.trees.specs.Kind.{Kind, prodK, overTuples, valueIf, value, build, pairKind, Sol, solKind}
 use Rattle.trees.proofs.Sets.Families.{Fam, join, empty, one, mem-of-cross, Disj}
-use Rattle.trees.proofs.Formula.Kind.{Kind, prodK, overTuples, valueIf, value, build, pairKind, mapE, hom-first, hom-second, hom-build}
+use Rattle.trees.proofs.Formula.Kind.{mapE, hom-first, hom-second, hom-build}
 use Rattle.trees.proofs.Sets.Tuples.{tuple→, part-inside, apart-first, apart-rest, tuple-mem, scored-part}
-use Rattle.trees.proofs.Formula.Rows.{RowFacts, above-rest, facts-tail, table-row, givenOf}
+use Rattle.trees.proofs.Formula.Rows.{above-rest, facts-tail, table-row, givenOf}
 use Rattle.trees.proofs.Sets.TreeFacts.{Given}
 use Rattle.trees.proofs.Joined.Cuts.{Right}
 use Rattle.trees.proofs.Joined.TableTrees.{treesKind, table-right}
 use Rattle.trees.proofs.Joined.TreeTest.{famOf, right-list, list-right, right-count}
 use Rattle.trees.proofs.Ties.Marks.{markIn, weight-one}
-use Rattle.trees.proofs.Counting.Keys.{AtLeast, Sol, solKind}
+use Rattle.trees.proofs.Counting.Keys.{AtLeast}
 use Rattle.trees.proofs.Counting.BestOf.{key-empty, Best, best-plus, best-times, best-one}
 pub use Rattle.trees.proofs.Counting.BestOf.{keyIn}
 

@@ -12,15 +12,16 @@ use mathlib.Core.List.{List·Memᴰ as Mem, List·Memᴰ·head as here, List·Me
 use Prim.Native.Nat.{ℕ, _+_, _*_}
 use lib.IntN.{pos}
 use lib.ListN.{length, length-append}
+use Rattle.laws.specs.Row.{Row}
 use Rattle.laws.proofs.Keep.{nil-of-none}
-use Rattle.trees.specs.Rows.{Row, clustersOf}
+use Rattle.trees.specs.Rows.{clustersOf}
 use Rattle.trees.specs.Heaviest.{weightIn}
 use Rattle.trees.specs.Result.{marksIn}
 use Rattle.trees.specs.Rescored.{Key}
+use Rattle.trees.specs.Kind.{top, joinK, Sol, plusSol, timesSol}
 use Rattle.trees.proofs.Sets.Families.{Fam, join, empty, cross, mem-cross, mem-of-cross, length-cross, Disj}
 use Rattle.trees.proofs.Ties.Marks.{marks-none, marks-join, weight-none, weight-join}
-use Rattle.trees.proofs.Counting.Keys.{top, top-self, top-cases, AtLeast, least-trans, least-top-l, least-top-r, joinK, join-least}
-use Rattle.trees.proofs.Counting.Keys.{Sol, plusSol, timesSol}
+use Rattle.trees.proofs.Counting.Keys.{top-self, top-cases, AtLeast, least-trans, least-top-l, least-top-r, join-least}
 
 abbrev pub keyIn : List Row → Fam → Key
 keyIn rs S = (weightIn rs S, marksIn (clustersOf rs) S)

@@ -1,5 +1,4 @@
 -- Counts stopped at a limit: the paper's formulas, on rows whose count fields are stopped, give the fields of the true counts.
---     Res                      a row length with a true count and key
 --     encodeSol, encode        the fields that hold them
 --     trueCount, Counted       the true count, and that it is one or more where there is a tree
 --     second                   an entry without its row length
@@ -22,17 +21,13 @@ use native.Mathlib.Omega.{arith}
 use lib.Dec.{T, eqb, leb, ltb, leb→le, le→leb, ltb→lt, lt→ltb, eqb→eq}
 use lib.IntN.{pos}
 use lib.ListN.{length}
-use Rattle.laws.specs.Lists.{some as any}
+use Rattle.laws.specs.Lists.{any}
 use Rattle.laws.proofs.Tests.{T-false, cond-true, cond-false}
 use Rattle.trees.specs.Rows.{Entry}
 use Rattle.trees.specs.Result.{Result, countField, markField}
 use Rattle.trees.specs.Rescored.{timesCounts, sumCounts, isLive, isMarked, isMany}
+use Rattle.trees.specs.Kind.{Res, Sol, plusSol, timesSol, countKind, solKind}
 use Rattle.trees.proofs.Formula.Kind.{mapE, Hom}
-use Rattle.trees.proofs.Counting.Keys.{Sol, plusSol, timesSol, countKind, solKind}
-
--- a row length, and a count with a key
-abbrev pub Res : Type 0
-Res = ℕ × Option Sol
 
 abbrev pub encodeSol : ℕ → ℕ → Option Sol → Result
 encodeSol limit n none = record { length = n; count = 0; mark = 0; best = pos 0; members = 0 }

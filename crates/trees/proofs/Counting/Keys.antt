@@ -1,12 +1,10 @@
 -- The first heaviest has the first key, and adding the same key on both sides keeps the order: so counts with keys are a semiring with no
 -- side conditions.
---     top, top-cases, top-self, top-comm, top-assoc     the first of two
+--     top-cases, top-self, top-comm, top-assoc     the first of two
 --     AtLeast x y                  y is not before x
 --     least-trans, least-antisym, least-top-l, least-top-r, least-of-first     an order, in which the first of two is at least both
---     joinK, join-top, join-least  keys added, and that this keeps the order
---     Sol, plusSol, timesSol       no tree; or a count and the key of the first heaviest
---     countKind, solKind           the kinds of counts, and of counts with keys
---     count-lawful, sol-lawful     both are semirings
+--     join-top, join-least  keys added, and that this keeps the order
+--     count-lawful, sol-lawful     counts, and counts with keys, are semirings
 -- Assumes nothing.
 use mathlib.Core.Path.{_≡_, refl, sym, ap, ap₂, _∙_, subst, subst₂}
 use mathlib.Core.Logic.{_⊎_, inl, inr}
@@ -21,13 +19,11 @@ use lib.Signed.{ltZ}
 use Rattle.laws.proofs.Tests.{cond-true, cond-false}
 use Rattle.laws.proofs.Integers.{ltZ-add}
 use Rattle.trees.specs.Rescored.{Key, keyFirst}
-use Rattle.trees.proofs.Formula.Kind.{Kind, Lawful}
+use Rattle.trees.specs.Kind.{top, joinK, countKind, Sol, plusSol, timesSol, solKind}
+use Rattle.trees.proofs.Formula.Kind.{Lawful}
 use Rattle.trees.proofs.Ties.KeyOrder.{Before, heavier, level, before→, →before, key-irrefl, key-trans, Which, ahead, same, behind, which}
 
 -- ---- the first of two
-
-abbrev pub top : Key → Key → Key
-top x y = cond (keyFirst x y) x y
 
 top-l : (x y : Key) → T (keyFirst x y) → top x y ≡ x
 top-l x y h = cond-true (keyFirst x y) x y h
@@ -112,9 +108,6 @@ least-of-first x y h = top-l x y h
 
 -- ---- keys added
 
-abbrev pub joinK : Key → Key → Key
-joinK x y = (x .0 +ℤ y .0, x .1 + y .1)
-
 first-join : (x y z : Key) → T (keyFirst y z) → T (keyFirst (joinK x y) (joinK x z))
 first-join x y z h = →before (joinK x y) (joinK x z) (go (before→ y z h))
   where
@@ -142,9 +135,6 @@ join-least x y a b h k =
 
 -- ---- counts, and counts with keys
 
-abbrev pub countKind : Kind ℕ
-countKind = record { none = 0; unit = 1; plus = _+_; times = _*_; own = λ r. 1 }
-
 pub count-lawful : Lawful countKind
 count-lawful = record {
   plus-none = λ x. omega arith;
@@ -154,19 +144,6 @@ count-lawful = record {
   times-unit = mul-one;
   times-plus = mul-add;
 }
-
-abbrev pub Sol : Type 0
-Sol = ℕ × Key
-
-abbrev pub plusSol : Option Sol → Option Sol → Option Sol
-plusSol none y = y
-plusSol (some x) none = some x
-plusSol (some x) (some y) = some (x .0 + y .0, top (x .1) (y .1))
-
-abbrev pub timesSol : Option Sol → Option Sol → Option Sol
-timesSol none y = none
-timesSol (some x) none = none
-timesSol (some x) (some y) = some (x .0 * y .0, joinK (x .1) (y .1))
 
 plus-none : (x : Option Sol) → plusSol x none ≡ x
 plus-none none = refl
@@ -200,16 +177,7 @@ times-plus (some x) (some y) none = refl
 times-plus (some x) (some y) (some z) = λ i. some (mul-add (x .0) (y .0) (z .0) i, join-top (x .1) (y .1) (z .1) i)
 
 module _ (bit : ℕ → ℕ) where
-  abbrev pub solKind : Kind (Option Sol)
-  solKind = record {
-    none = none;
-    unit = some (1, (pos 0, 0));
-    plus = plusSol;
-    times = timesSol;
-    own = λ r. some (1, (r .weight, bit (r .cluster)));
-  }
-
-  pub sol-lawful : Lawful solKind
+  pub sol-lawful : Lawful (solKind bit)
   sol-lawful = record {
     plus-none = plus-none;
     plus-assoc = plus-assoc;

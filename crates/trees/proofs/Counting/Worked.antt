@@ -22,17 +22,18 @@ use lib.ListN.{length, length-map}
 use Rattle.laws.specs.Cluster.{single}
 use Rattle.laws.specs.Limits.{Width}
 use Rattle.laws.specs.Lists.{keepIf, keep}
+use Rattle.laws.specs.Row.{Row, isScored}
 use Rattle.laws.proofs.Tests.{T-false}
 use Rattle.laws.proofs.Keep.{keep-map}
-use Rattle.trees.specs.Rows.{Row, isScored, Entry, sc}
+use Rattle.trees.specs.Rows.{Entry, sc}
 use Rattle.trees.specs.Tuple.{tuples}
 use Rattle.trees.specs.Result.{Result, blank, countField, markField}
 use Rattle.trees.specs.Rescored.{counted, isLive, Key, keyOf, firstOfKeys, firstKey, joined, alone, together, workedOut}
+use Rattle.trees.specs.Kind.{Kind, prodK, overTuples, valueIf, value, joinK, Sol, plusSol, timesSol, countKind, solKind, Res}
 pub use Rattle.trees.proofs.Ties.Marks.{markIn}
-use Rattle.trees.proofs.Formula.Kind.{Kind, prodK, overTuples, valueIf, value, mapE, tuples-map, hom-sum}
-use Rattle.trees.proofs.Counting.Keys.{joinK, Sol, plusSol, timesSol, countKind, solKind}
+use Rattle.trees.proofs.Formula.Kind.{mapE, tuples-map, hom-sum}
 use Rattle.trees.proofs.Sets.Tuples.{scored-part}
-use Rattle.trees.proofs.Counting.Capped.{Res, encodeSol, encode, trueCount, Counted, second, past, count-small, count-large}
+use Rattle.trees.proofs.Counting.Capped.{encodeSol, encode, trueCount, Counted, second, past, count-small, count-large}
 use Rattle.trees.proofs.Counting.Capped.{count-hom, fieldsT, trueTimes, trueSum, many-is}
 
 abbrev pub lengthIf : Bool → ℕ → ℕ

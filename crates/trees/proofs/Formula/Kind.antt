@@ -1,14 +1,8 @@
--- One row formula for any kind of result: a sum over the tuples of the products of the children's results. Counting, the key of the first
--- heaviest tree and the list of the trees themselves are kinds of it.
---     Kind                    what results of one kind need: none, unit, plus, times, and a row's own
---     sumK, prodK, overTuples     sums and products of lists; the sum over tuples of the products
---     valueIf, value, build   the row formula by its cases, as a whole, and a table built by it
---     tableOf F rs            a table by any row formula F: each row worked out from the rows beneath
+-- Laws of the row formula for any kind of result, and maps that carry one kind to another.
 --     Lawful                  the laws of a semiring, as far as the search needs them
 --     mapE, cl-map, tuples-map     the same rows with other results: their clusters, and their tuples
 --     Hom                     a map that respects the operations
 --     hom-sum, hom-value, hom-build     carries sums over tuples, rows and tables
---     pairKind                two kinds at once
 --     hom-first, hom-second, pair-lawful     each of the two is carried, and the pair is lawful where both are
 -- Assumes nothing.
 use mathlib.Core.Path.{_≡_, refl, sym, ap, ap₂, _∙_}
@@ -17,48 +11,16 @@ use mathlib.Core.List.{List, [], _∷_, map}
 use Prim.Native.Nat.{ℕ}
 use Rattle.laws.specs.Cluster.{single}
 use Rattle.laws.specs.Lists.{keep, sublists}
+use Rattle.laws.specs.Row.{Row, isScored}
 use Rattle.laws.proofs.Appended.{map-through}
 use Rattle.laws.proofs.Keep.{keep-ext, keep-map}
 use Rattle.laws.proofs.Sublists.{sublists-map}
-use Rattle.trees.specs.Rows.{Row, isScored, Entry, cl}
+use Rattle.trees.specs.Rows.{Entry, cl}
 use Rattle.trees.specs.Tuple.{isTuple, tuples}
 use Rattle.trees.specs.Rescored.{summed}
-
-pub record Kind (A : Type 0) : Type 0 where
-  pub none : A
-  pub unit : A
-  pub plus : A → A → A
-  pub times : A → A → A
-  pub own : Row → A
-
-module _ {A : Type 0} (F : Row → List (Entry A) → A) where
-  abbrev pub tableOf : List Row → List (Entry A)
-  tableOf [] = []
-  tableOf (r ∷ rs) = record { row = r; val = F r (tableOf rs) } ∷ tableOf rs
+use Rattle.trees.specs.Kind.{Kind, prodK, overTuples, valueIf, value, build, pairKind}
 
 module _ {A : Type 0} (k : Kind A) where
-  abbrev pub sumK : List A → A
-  sumK [] = k .none
-  sumK (x ∷ xs) = k .plus x (sumK xs)
-
-  abbrev pub prodK : List (Entry A) → A
-  prodK [] = k .unit
-  prodK (e ∷ τ) = k .times (e .val) (prodK τ)
-
-  abbrev pub overTuples : List (List (Entry A)) → A
-  overTuples τs = sumK (map prodK τs)
-
-  abbrev pub valueIf : Bool → Bool → ℕ → Row → List (Entry A) → A
-  valueIf false one d r t = k .none
-  valueIf true true d r t = k .own r
-  valueIf true false d r t = k .times (k .own r) (overTuples (tuples d (r .cluster) (summed r t)))
-
-  abbrev pub value : ℕ → Row → List (Entry A) → A
-  value d r t = valueIf (isScored r) (single (r .cluster)) d r t
-
-  abbrev pub build : ℕ → List Row → List (Entry A)
-  build d rs = tableOf (value d) rs
-
   pub record Lawful : Type 0 where
     pub plus-none : (x : A) → k .plus x (k .none) ≡ x
     pub plus-assoc : (x y z : A) → k .plus (k .plus x y) z ≡ k .plus x (k .plus y z)
@@ -131,22 +93,13 @@ module _ {A B : Type 0} (ka : Kind A) (kb : Kind B) (h : A → B) where
 -- ---- two kinds at once
 
 module _ {A B : Type 0} (ka : Kind A) (kb : Kind B) where
-  abbrev pub pairKind : Kind (A × B)
-  pairKind = record {
-    none = (ka .none, kb .none);
-    unit = (ka .unit, kb .unit);
-    plus = λ x y. (ka .plus (x .0) (y .0), kb .plus (x .1) (y .1));
-    times = λ x y. (ka .times (x .0) (y .0), kb .times (x .1) (y .1));
-    own = λ r. (ka .own r, kb .own r);
-  }
-
-  pub hom-first : Hom pairKind ka (λ (x : A × B). x .0)
+  pub hom-first : Hom (pairKind ka kb) ka (λ (x : A × B). x .0)
   hom-first = record { none = refl; unit = refl; plus = λ x y. refl; times = λ x y. refl; own = λ r. refl }
 
-  pub hom-second : Hom pairKind kb (λ (x : A × B). x .1)
+  pub hom-second : Hom (pairKind ka kb) kb (λ (x : A × B). x .1)
   hom-second = record { none = refl; unit = refl; plus = λ x y. refl; times = λ x y. refl; own = λ r. refl }
 
-  pub pair-lawful : Lawful ka → Lawful kb → Lawful pairKind
+  pub pair-lawful : Lawful ka → Lawful kb → Lawful (pairKind ka kb)
   pair-lawful a b = record {
     plus-none = λ x i. (a .plus-none (x .0) i, b .plus-none (x .1) i);
     plus-assoc = λ x y z i. (a .plus-assoc (x .0) (y .0) (z .0) i, b .plus-assoc (x .1) (y .1) (z .1) i);

@@ -18,28 +18,29 @@ use native.Mathlib.Omega.{arith}
 use lib.Dec.{T, eqb}
 use lib.ListN.{length, length-map}
 use Rattle.laws.specs.Cluster.{inside, strict}
-use Rattle.laws.specs.Lists.{keepIf, keep, every, sublists}
-use Rattle.laws.proofs.Falling.{Falling, falling-above}
+use Rattle.laws.specs.Lists.{keepIf, keep, every, sublists, Falling}
+use Rattle.laws.specs.Row.{Row, isScored}
+use Rattle.laws.proofs.Falling.{falling-above}
 use Rattle.laws.proofs.Tests.{T-and, and-T, bool-ext, neq→, →neq}
 use Rattle.laws.proofs.Keep.{keep-ext, keep-map, keep-append, keep-none, every→, →every}
 use Rattle.laws.proofs.Sublists.{sublists-map, sublists-drop, mem-of-sublist}
 use Rattle.laws.proofs.Cluster.{le-of-inside, strict→, →strict}
-use Rattle.trees.specs.Rows.{Row, isScored, clustersOf, scoredIn, Entry, cl, sc}
+use Rattle.trees.specs.Rows.{clustersOf, scoredIn, Entry, cl, sc, RowFacts}
 use Rattle.trees.specs.Tuple.{isTuple, tuples}
-use Rattle.trees.proofs.Formula.Kind.{tableOf}
-use Rattle.trees.proofs.Formula.Rows.{RowFacts, mem-scored}
+use Rattle.trees.specs.Kind.{workedFrom}
+use Rattle.trees.proofs.Formula.Rows.{mem-scored}
 use Rattle.trees.proofs.Sets.Tuples.{part-inside, part-other}
 
 module _ {A : Type 0} where
   pub tuples-clusters : (d C : ℕ) (es : List (Entry A)) → map (map cl) (tuples d C es) ≡ keep (isTuple d C) (sublists (map cl es))
   tuples-clusters d C es = sym (ap (keep (isTuple d C)) (sublists-map cl es) ∙ keep-map (map cl) (isTuple d C) (sublists es))
 
-  pub table-scored : (F : Row → List (Entry A) → A) (rs : List Row) → map cl (keep sc (tableOf F rs)) ≡ scoredIn rs
+  pub table-scored : (F : Row → List (Entry A) → A) (rs : List Row) → map cl (keep sc (workedFrom F rs)) ≡ scoredIn rs
   table-scored F [] = refl
   table-scored F (r ∷ rs) = go (isScored r) (table-scored F rs)
     where
-      go : (b : Bool) → map cl (keep sc (tableOf F rs)) ≡ scoredIn rs
-          → map cl (keepIf b (record { row = r; val = F r (tableOf F rs) }) (keep sc (tableOf F rs)))
+      go : (b : Bool) → map cl (keep sc (workedFrom F rs)) ≡ scoredIn rs
+          → map cl (keepIf b (record { row = r; val = F r (workedFrom F rs) }) (keep sc (workedFrom F rs)))
           ≡ clustersOf (keepIf b r (keep isScored rs))
       go true e = ap (λ (cs : List ℕ). r .cluster ∷ cs) e
       go false e = e
@@ -129,10 +130,10 @@ module _ (w d : ℕ) (up : List Row) (r : Row) (qs : List Row) (f : RowFacts w (
           λ e. f .fits (q .0) (q .1) .0 (q .3 ∙ e)
 
   pub length-beneath : {A : Type 0} (F : Row → List (Entry A) → A)
-      → length (tuples d (r .cluster) (keep sc (tableOf F qs)))
+      → length (tuples d (r .cluster) (keep sc (workedFrom F qs)))
       ≡ length (keep (isTuple d (r .cluster)) (sublists (scoredIn (up ++ (r ∷ qs)))))
   length-beneath F =
-      sym (length-map (tuples d (r .cluster) (keep sc (tableOf F qs))) (map cl))
-      ∙ ap length (tuples-clusters d (r .cluster) (keep sc (tableOf F qs)))
+      sym (length-map (tuples d (r .cluster) (keep sc (workedFrom F qs))) (map cl))
+      ∙ ap length (tuples-clusters d (r .cluster) (keep sc (workedFrom F qs)))
       ∙ ap (λ (l : List ℕ). length (keep (isTuple d (r .cluster)) (sublists l))) (table-scored F qs)
       ∙ ap length (sym tuples-beneath)

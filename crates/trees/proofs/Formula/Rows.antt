@@ -1,6 +1,5 @@
 -- Rows that fall: the largest cluster first, none twice, none empty, all within the width.
---     RowFacts w rs          what holds of the rows of any accepted list of w taxa
---     facts-tail             and of its smaller rows
+--     facts-tail             what holds of rows holds of the smaller ones
 --     above-rest             the first row is above the others
 --     table-rows, table-row, row-table, table-clusters   the rows of a table, by any row formula, are the rows it was made of
 --     scored-mem, mem-scored     the clusters of the scored rows
@@ -13,17 +12,14 @@ use mathlib.Core.List.{List, [], _∷_, map, Memᴰ·map, Memᴰ·of-map}
 use mathlib.Core.List.{List·Memᴰ as Mem, List·Memᴰ·head as here, List·Memᴰ·tail as there, List·Memᴰ·not-nil as mem-nil}
 use Prim.Native.Nat.{ℕ, _^_, _<_}
 use lib.Dec.{T}
-use Rattle.laws.specs.Lists.{keep, Once}
-use Rattle.laws.proofs.Falling.{Falling, falling-once}
+use Rattle.laws.specs.Lists.{keep, Once, Falling}
+use Rattle.laws.specs.Row.{Row, isScored}
+use Rattle.laws.proofs.Falling.{falling-once}
 use Rattle.laws.proofs.Keep.{mem-keep, mem-of-keep}
 use Rattle.laws.proofs.Once.{once-map-keep}
-use Rattle.trees.specs.Rows.{Row, isScored, clustersOf, scoredIn, Entry, cl}
-use Rattle.trees.proofs.Formula.Kind.{tableOf}
+use Rattle.trees.specs.Rows.{clustersOf, scoredIn, RowFacts, Entry, cl}
+use Rattle.trees.specs.Kind.{workedFrom}
 use Rattle.trees.proofs.Sets.TreeFacts.{Given}
-
-pub record RowFacts (w : ℕ) (rs : List Row) : Type 0 where
-  pub falls : Falling (clustersOf rs)
-  pub fits : (r : Row) → Mem r rs → (r .cluster ≢ 0) × (r .cluster < 2 ^ w)
 
 pub facts-tail : (w : ℕ) (r : Row) (rs : List Row) → RowFacts w (r ∷ rs) → RowFacts w rs
 facts-tail w r rs f = record { falls = f .falls .1; fits = λ q m. f .fits q (there m) }
@@ -35,20 +31,20 @@ above-rest w r rs f q m = f .falls .0 (q .cluster) (Memᴰ·map (λ (x : Row). x
 -- ---- the rows of a table
 
 module _ {A : Type 0} (F : Row → List (Entry A) → A) where
-  pub table-row : (rs : List Row) (e : Entry A) → Mem e (tableOf F rs) → Mem (e .row) rs
+  pub table-row : (rs : List Row) (e : Entry A) → Mem e (workedFrom F rs) → Mem (e .row) rs
   table-row [] e m = absurd (mem-nil m)
   table-row (r ∷ rs) e (here q) = here (ap (λ (x : Entry A). x .row) q)
   table-row (r ∷ rs) e (there m) = there (table-row rs e m)
 
-  pub row-table : (rs : List Row) (r : Row) → Mem r rs → (e : Entry A) × Mem e (tableOf F rs) × (e .row ≡ r)
-  row-table (q ∷ rs) r (here p) = (record { row = q; val = F q (tableOf F rs) }, here refl, sym p)
+  pub row-table : (rs : List Row) (r : Row) → Mem r rs → (e : Entry A) × Mem e (workedFrom F rs) × (e .row ≡ r)
+  row-table (q ∷ rs) r (here p) = (record { row = q; val = F q (workedFrom F rs) }, here refl, sym p)
   row-table (q ∷ rs) r (there m) = let x = row-table rs r m in (x .0, there (x .1), x .2)
 
-  pub table-rows : (rs : List Row) → map (λ (e : Entry A). e .row) (tableOf F rs) ≡ rs
+  pub table-rows : (rs : List Row) → map (λ (e : Entry A). e .row) (workedFrom F rs) ≡ rs
   table-rows [] = refl
   table-rows (r ∷ rs) = ap (λ (qs : List Row). r ∷ qs) (table-rows rs)
 
-  pub table-clusters : (rs : List Row) → map cl (tableOf F rs) ≡ clustersOf rs
+  pub table-clusters : (rs : List Row) → map cl (workedFrom F rs) ≡ clustersOf rs
   table-clusters [] = refl
   table-clusters (r ∷ rs) = ap (λ (cs : List ℕ). r .cluster ∷ cs) (table-clusters rs)
 

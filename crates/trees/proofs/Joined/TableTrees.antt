@@ -14,19 +14,20 @@ use native.Mathlib.Omega.{arith}
 use lib.Dec.{T}
 use Rattle.laws.specs.Cluster.{strict, single}
 use Rattle.laws.specs.Lists.{keep, bind, Once}
+use Rattle.laws.specs.Row.{Row, isScored}
 use Rattle.laws.proofs.Falling.{falling-once}
 use Rattle.laws.proofs.Tests.{true-T}
 use Rattle.laws.proofs.Keep.{mem-keep, mem-of-keep}
 use Rattle.laws.proofs.Once.{once-map-keep}
 use Rattle.laws.proofs.Cluster.{le-of-inside, strict→}
-use Rattle.trees.specs.Rows.{Row, isScored, clustersOf, cl, sc}
+use Rattle.trees.specs.Rows.{clustersOf, cl, sc, RowFacts}
 use Rattle.trees.specs.Tuple.{tuples}
+use Rattle.trees.specs.Kind.{Kind, prodK, overTuples, valueIf, value, build}
 use Rattle.trees.proofs.Sets.Families.{Fam, empty, one, cross}
-use Rattle.trees.proofs.Formula.Kind.{Kind, prodK, overTuples, valueIf, value, build}
 use Rattle.trees.proofs.Sets.TreeFacts.{Given}
 use Rattle.trees.proofs.Joined.Cuts.{TreeEntry, Right, combos}
 use Rattle.trees.proofs.Joined.RowTrees.{Beneath, single-right, row-right}
-use Rattle.trees.proofs.Formula.Rows.{RowFacts, facts-tail, above-rest, table-row, row-table, table-clusters}
+use Rattle.trees.proofs.Formula.Rows.{facts-tail, above-rest, table-row, row-table, table-clusters}
 use Rattle.trees.proofs.Formula.Rows.{scored-mem, mem-scored, givenOf}
 
 abbrev pub treesKind : Kind (List Fam)

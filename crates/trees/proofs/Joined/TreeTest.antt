@@ -14,10 +14,10 @@ use Prim.Native.Nat.{ℕ, _-_, _^_, _<_}
 use lib.Dec.{T, leb, T-not, not-T}
 use lib.ListN.{length, length-map}
 use Rattle.laws.specs.Cluster.{inside, strict, nested, single, taxa}
-use Rattle.laws.specs.Lists.{keep, every, some, elem, sublists, Once}
+use Rattle.laws.specs.Lists.{keep, every, any, elem, sublists, Once}
 use Rattle.laws.proofs.Falling.{sublist-is-elem}
 use Rattle.laws.proofs.Tests.{T-and, and-T, T-or, or-l, or-r, T-dec}
-use Rattle.laws.proofs.Keep.{mem-keep, mem-of-keep, every→, →every, keep-ext, keep-keep, some-keep, elem→, →elem}
+use Rattle.laws.proofs.Keep.{mem-keep, mem-of-keep, every→, →every, keep-ext, keep-keep, any-keep, elem→, →elem}
 use Rattle.laws.proofs.Once.{once-keep, once-map, once-length}
 use Rattle.laws.proofs.Sublists.{sublists-keep, mem-of-sublist, sublists-once}
 use Rattle.laws.proofs.Taxa.{taxa-mem, mem-taxa}
@@ -71,12 +71,12 @@ module _ (G : Given) (C : ℕ) (xs : List ℕ) where
 module _ (G : Given) where
   kids-children : (S : Fam) (m : ℕ) → children (keep S (G .listed)) m ≡ kids G S m
   kids-children S m =
-      keep-keep (λ (k : ℕ). strict k m && not (some (λ (l : ℕ). strict l m && strict k l) (keep S (G .listed)))) S (G .listed)
+      keep-keep (λ (k : ℕ). strict k m && not (any (λ (l : ℕ). strict l m && strict k l) (keep S (G .listed)))) S (G .listed)
       ∙ keep-ext
-      (λ (k : ℕ). S k && (strict k m && not (some (λ (l : ℕ). strict l m && strict k l) (keep S (G .listed)))))
+      (λ (k : ℕ). S k && (strict k m && not (any (λ (l : ℕ). strict l m && strict k l) (keep S (G .listed)))))
       (kid G S m)
       (G .listed)
-      (λ k _. ap (λ (x : Bool). S k && (strict k m && not x)) (some-keep (λ (l : ℕ). strict l m && strict k l) S (G .listed)))
+      (λ k _. ap (λ (x : Bool). S k && (strict k m && not x)) (any-keep (λ (l : ℕ). strict l m && strict k l) S (G .listed)))
 
   module _ (C : ℕ) (S : Fam) where
     abbrev members : List ℕ

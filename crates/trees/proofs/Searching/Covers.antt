@@ -1,8 +1,6 @@
 -- Covers: tuples without the lower bound on the number of children. A search for tuples looks for covers of what is left.
---     covers n R cs              at most n clusters, pairwise apart, whose union is R
 --     CoverFacts, cover→, →cover     the test as a record, out of it and into it
 --     covers-cons                one child more: it lies inside R, and the others cover what is left
---     isCover, coversOf n R es   the covers of R among the sublists of entries
 --     inFront                    an entry in front of each of some lists (passed on from laws)
 --     takeIf b e τs              the same; none of them where it may not be taken
 --     chosen n R es              the same by recursion: each entry is taken or passed over
@@ -31,10 +29,8 @@ use Rattle.laws.proofs.Cluster.{inside-union-l, apart-unionOf, apart-of-unionOf
 use Rattle.laws.proofs.Cluster.{rest-apart, union-rest, union-apart, two-parts}
 use Rattle.trees.specs.Rows.{Entry, cl}
 use Rattle.trees.specs.Tuple.{allApart, isTuple, tuples}
+use Rattle.trees.specs.Cover.{covers, isCover, coversOf}
 use Rattle.trees.proofs.Sets.Tuples.{tuple→, →tuple}
-
-abbrev pub covers : ℕ → ℕ → List ℕ → Bool
-covers n R cs = leb (length cs) n && eqb (unionOf cs) R && allApart cs
 
 pub record CoverFacts (n R : ℕ) (cs : List ℕ) : Type 0 where
   pub few : length cs ≤ n
@@ -103,12 +99,6 @@ tuple-is-cover d C cs p f = bool-ext (isTuple d C cs) (covers (d - 1) C cs) to f
 -- ---- the covers among entries
 
 module _ {A : Type 0} where
-  abbrev pub isCover : ℕ → ℕ → List (Entry A) → Bool
-  isCover n R τ = covers n R (map cl τ)
-
-  abbrev pub coversOf : ℕ → ℕ → List (Entry A) → List (List (Entry A))
-  coversOf n R es = keep (isCover n R) (sublists es)
-
   abbrev pub takeIf : Bool → Entry A → List (List (Entry A)) → List (List (Entry A))
   takeIf b e τs = cond b (inFront e τs) []
 
@@ -117,7 +107,7 @@ module _ {A : Type 0} where
   chosen zero R (e ∷ es) = chosen zero R es
   chosen (suc n) R (e ∷ es) = chosen (suc n) R es ++ takeIf (inside (cl e) R) e (chosen n (R - cl e) es)
 
-  coversOf-nil : (n R : ℕ) → coversOf n R [] ≡ cond (eqb 0 R) ([] ∷ []) []
+  coversOf-nil : (n R : ℕ) → coversOf {A = A} n R [] ≡ cond (eqb 0 R) ([] ∷ []) []
   coversOf-nil n R = rw leb·zero (go (eqb 0 R))
     where
       go : (b : Bool) → keepIf {A = List (Entry A)} (b && true) [] [] ≡ cond b ([] ∷ []) []

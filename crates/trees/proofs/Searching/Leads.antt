@@ -29,7 +29,8 @@ use Rattle.laws.proofs.Sublists.{mem-of-sublist, sublists-drop}
 use Rattle.laws.proofs.Cluster.{inside-refl, le-of-inside, rest-apart, union-rest, unionOf-lt, inside-unionOf, apart-of-unionOf}
 use Rattle.laws.proofs.Taxa.{highest-le, highest-gt}
 use Rattle.trees.specs.Rows.{Entry, cl, sc}
-use Rattle.trees.proofs.Searching.Covers.{covers, cover→, isCover, coversOf, inFront, takeIf, chosen, chosen-is, coversOf-cons}
+use Rattle.trees.specs.Cover.{covers, isCover, coversOf}
+use Rattle.trees.proofs.Searching.Covers.{cover→, inFront, takeIf, chosen, chosen-is, coversOf-cons}
 
 abbrev pub leads : ℕ → ℕ → Bool
 leads c R = inside c R && ltb (R - c) c

@@ -28,7 +28,7 @@ use Rattle.laws.specs.Cluster.{inside, highest}
 use Rattle.laws.proofs.Tests.{T-and, and-T, T-true, T-false, eq→eqb}
 use Rattle.laws.proofs.Descends.{Descends, descends-first}
 use Rattle.trees.specs.Rows.{Entry, cl, sc}
-use Rattle.trees.proofs.Formula.Kind.{Kind}
+use Rattle.trees.specs.Kind.{Kind}
 use Rattle.trees.proofs.Searching.Leads.{leads, leads→, leads-reaches}
 
 module _ {A : Type 0} (k : Kind A) where

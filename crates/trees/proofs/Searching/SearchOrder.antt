@@ -17,8 +17,9 @@ use Rattle.laws.proofs.Descends.{Descends, descends-first, descends-map-keep}
 use Rattle.laws.proofs.Appended.{map-reverse}
 use Rattle.laws.proofs.Cluster.{le-of-inside}
 use Rattle.trees.specs.Rows.{Entry, cl, sc}
-use Rattle.trees.proofs.Formula.Kind.{Kind, prodK, overTuples}
-use Rattle.trees.proofs.Searching.Covers.{coversOf, inFront, takeIf, chosen-is}
+use Rattle.trees.specs.Kind.{Kind, prodK, overTuples}
+use Rattle.trees.specs.Cover.{coversOf}
+use Rattle.trees.proofs.Searching.Covers.{inFront, takeIf, chosen-is}
 use Rattle.trees.proofs.Searching.Leads.{leads, leads→, coversOf-lead, coversOf-one, coversOf-zero-is, coversOf-stop, coversOf-first}
 use Rattle.trees.proofs.Searching.Search.{lookup, scan, gain, search, search-none, search-one, search-suc}
 use Rattle.trees.proofs.Searching.Search.{gain-whole, gain-part, lookup-cons, lookup-missing, scan-ended, scan-cons}

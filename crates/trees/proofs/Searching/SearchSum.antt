@@ -11,8 +11,10 @@ use Rattle.laws.proofs.Keep.{mem-of-keep}
 use Rattle.laws.proofs.Descends.{Descends}
 use Rattle.trees.specs.Rows.{Entry, cl, sc}
 use Rattle.trees.specs.Tuple.{tuples}
-use Rattle.trees.proofs.Formula.Kind.{Kind, prodK, overTuples, Lawful}
-use Rattle.trees.proofs.Searching.Covers.{coversOf, tuples-are-covers}
+use Rattle.trees.specs.Kind.{Kind, prodK, overTuples}
+use Rattle.trees.specs.Cover.{coversOf}
+use Rattle.trees.proofs.Formula.Kind.{Lawful}
+use Rattle.trees.proofs.Searching.Covers.{tuples-are-covers}
 use Rattle.trees.proofs.Searching.Search.{search}
 use Rattle.trees.proofs.Searching.SearchOrder.{Summing, over-append, search-in-order}
 

@@ -17,9 +17,10 @@ use Rattle.laws.proofs.Descends.{Descends, descends-once}
 use Rattle.laws.proofs.Appended.{bind-append, map-reverse, mem-reverse, mem-of-reverse, once-reverse}
 use Rattle.trees.specs.Rows.{Entry, cl, sc}
 use Rattle.trees.specs.Tuple.{tuples}
-use Rattle.trees.proofs.Formula.Kind.{Kind, prodK, overTuples}
+use Rattle.trees.specs.Kind.{Kind, prodK, overTuples}
+use Rattle.trees.specs.Cover.{coversOf}
 use Rattle.trees.proofs.Sets.Tuples.{tuples-once}
-use Rattle.trees.proofs.Searching.Covers.{coversOf, tuples-are-covers, clusters-map, coversOf-map}
+use Rattle.trees.proofs.Searching.Covers.{tuples-are-covers, clusters-map, coversOf-map}
 use Rattle.trees.proofs.Searching.Search.{search}
 use Rattle.trees.proofs.Searching.SearchOrder.{Summing, search-in-order}
 

@@ -14,9 +14,9 @@ use Prim.Native.Nat.{ℕ, _-_, _^_, _<_}
 use lib.Dec.{T, leb, T-not, not-T}
 use lib.ListN.{length}
 use Rattle.laws.specs.Cluster.{inside, strict, apart, nested, single}
-use Rattle.laws.specs.Lists.{keep, some, Once}
+use Rattle.laws.specs.Lists.{keep, any, Once}
 use Rattle.laws.proofs.Tests.{T-and, and-T}
-use Rattle.laws.proofs.Keep.{keep-ext, some-ext, some→, →some}
+use Rattle.laws.proofs.Keep.{keep-ext, any-ext, any→, →any}
 use Rattle.laws.proofs.Cluster.{strict→, apart-of-inside, zero-of-apart}
 use Rattle.trees.proofs.Sets.Families.{Fam}
 
@@ -37,7 +37,7 @@ agree false false false y y′ f g = refl
 -- ---- a tree, as facts about a family
 module _ (G : Given) where
   abbrev pub over : Fam → ℕ → ℕ → Bool
-  over S m k = some (λ (l : ℕ). S l && (strict l m && strict k l)) (G .listed)
+  over S m k = any (λ (l : ℕ). S l && (strict l m && strict k l)) (G .listed)
 
   abbrev pub kid : Fam → ℕ → ℕ → Bool
   kid S m k = S k && (strict k m && not (over S m k))
@@ -58,7 +58,7 @@ module _ (G : Given) where
   kids-local S U m f =
       keep-ext (kid S m) (kid U m) (G .listed) (λ k _.
       agree (S k) (U k) (strict k m) (not (over S m k)) (not (over U m k)) (λ h. f k (strict→ k m h .0))
-      (λ h. ap not (some-ext (λ (l : ℕ). S l && (strict l m && strict k l)) (λ (l : ℕ). U l && (strict l m && strict k l)) (G .listed)
+      (λ h. ap not (any-ext (λ (l : ℕ). S l && (strict l m && strict k l)) (λ (l : ℕ). U l && (strict l m && strict k l)) (G .listed)
       (λ l _. agree (S l) (U l) (strict l m) (strict k l) (strict k l) (λ j. f l (strict→ l m j .0)) (λ j. refl)))))
 
   -- k is a member strictly inside m, and no member lies between
@@ -73,7 +73,7 @@ module _ (G : Given) where
     where
       between : (l : ℕ) → Mem l (G .listed) → T (S l) → T (strict l m) → T (strict k l) → T (over S m k)
       between l j a b c =
-          →some (λ (x : ℕ). S x && (strict x m && strict k x)) (G .listed) j
+          →any (λ (x : ℕ). S x && (strict x m && strict k x)) (G .listed) j
           (and-T (S l) (strict l m && strict k l) a (and-T (strict l m) (strict k l) b c))
 
   pub →kid : (S : Fam) (m k : ℕ) → T (S k) → T (strict k m)
@@ -83,7 +83,7 @@ module _ (G : Given) where
     where
       none : T (over S m k) → ⊥
       none h =
-          let q = some→ (λ (l : ℕ). S l && (strict l m && strict k l)) (G .listed) h in
+          let q = any→ (λ (l : ℕ). S l && (strict l m && strict k l)) (G .listed) h in
           let r = T-and (S (q .0)) (strict (q .0) m && strict k (q .0)) (q .2) in
           let s = T-and (strict (q .0) m) (strict k (q .0)) (r .1) in
           f (q .0) (q .1) (r .0) (s .0) (s .1)

@@ -20,11 +20,12 @@ use mathlib.Core.List.{List·Memᴰ as Mem, List·Memᴰ·head as here, List·Me
 use Prim.Native.Nat.{ℕ}
 use lib.Dec.{T}
 use lib.Signed.{ltZ}
-use Rattle.laws.specs.Lists.{sublists}
-use Rattle.laws.proofs.Falling.{Falling, falling-once, sublist-trans}
+use Rattle.laws.specs.Lists.{sublists, Falling}
+use Rattle.laws.specs.Row.{Row, isScored}
+use Rattle.laws.proofs.Falling.{falling-once, sublist-trans}
 use Rattle.laws.proofs.Sublists.{sublists-map-keep}
 use Rattle.laws.proofs.Tests.{T-dec, cond-true, cond-false}
-use Rattle.trees.specs.Rows.{Row, isScored, clustersOf, scoredIn}
+use Rattle.trees.specs.Rows.{clustersOf, scoredIn}
 use Rattle.trees.specs.Heaviest.{weightOf, comesFirst, firstOf, firstHeaviest}
 use Rattle.trees.specs.Rescored.{Key, keyFirst}
 use Rattle.trees.specs.Result.{marksOf}

@@ -19,12 +19,13 @@ use lib.Dec.{T, eqb, eqb→eq, eqb-refl}
 use lib.IntN.{ℤ, pos, _+ℤ_, +ℤ-assoc, +ℤ-idr}
 use lib.ListN.{length}
 use lib.Pow.{pow-pos, pow-mono, pow-add}
-use Rattle.laws.specs.Lists.{keep, elem, sublists, Once}
-use Rattle.laws.proofs.Falling.{Falling, elem-keep, sublist-is-elem}
+use Rattle.laws.specs.Lists.{keep, elem, sublists, Once, Falling}
+use Rattle.laws.specs.Row.{Row}
+use Rattle.laws.proofs.Falling.{elem-keep, sublist-is-elem}
 use Rattle.laws.proofs.Integers.{add-swap}
 use Rattle.laws.proofs.Keep.{keep-ext}
 use Rattle.laws.proofs.Tests.{T-true, T-false, eq→eqb}
-use Rattle.trees.specs.Rows.{Row, clustersOf}
+use Rattle.trees.specs.Rows.{clustersOf}
 use Rattle.trees.specs.Heaviest.{weightIn, weightOf}
 use Rattle.trees.specs.Result.{marksIn, marksOf}
 use Rattle.trees.proofs.Sets.Families.{Fam, join, one, Disj}

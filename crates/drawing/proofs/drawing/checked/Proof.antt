@@ -5,7 +5,7 @@ use Prim.Native.Nat.{_<_}
 use native.Mathlib.Omega.{arith}
 use borrow.Author.Needs.{needs}
 use borrow.Author.Tests.{not-true, not-false}
-use Rattle.kept.specs.View.{rowCap}
+use Rattle.laws.specs.Limits.{rowCap}
 use Rattle.kept.specs.Fit.{isFit}
 use Rattle.kept.specs.Rows.{placeOf}
 use Rattle.drawing.specs.Draw.{leafRow, hasTree}

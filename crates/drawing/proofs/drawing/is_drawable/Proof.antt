@@ -5,7 +5,8 @@ use Prim.Native.Nat.{_<_}
 use native.Mathlib.Omega.{arith}
 use borrow.Author.Needs.{needs}
 use borrow.Author.Tests.{not-true, not-false}
-use Rattle.kept.specs.View.{rowCap, resultAt}
+use Rattle.laws.specs.Limits.{rowCap}
+use Rattle.kept.specs.View.{resultAt}
 use Rattle.drawing.specs.Marked.{scoredTo}
 use Rattle.drawing.proofs.Laws.Draw.{rows-capped, degree-some, drawable-unscored, drawable-no-tree, drawable-tree}
 use Rattle.drawing.proofs.Laws.Front.{front-count, front-of-holds}

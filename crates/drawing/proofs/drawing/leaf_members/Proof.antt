@@ -4,7 +4,7 @@ use mathlib.Core.Path.{_≡_, ap, _∙_}
 use Prim.Native.Nat.{_<_}
 use native.Mathlib.Omega.{arith}
 use borrow.Author.Needs.{needs}
-use Rattle.kept.specs.View.{rowCap}
+use Rattle.laws.specs.Limits.{rowCap}
 use Rattle.kept.specs.Rows.{placeOf}
 use Rattle.drawing.specs.Draw.{leafRow}
 use Rattle.drawing.proofs.Laws.Draw.{rows-capped, members-held}

@@ -3,7 +3,7 @@ use mathlib.Core.Path.{sym}
 use Prim.Native.Nat.{_<_}
 use native.Mathlib.Omega.{arith}
 use borrow.Author.Needs.{needs}
-use Rattle.kept.specs.View.{rowCap}
+use Rattle.laws.specs.Limits.{rowCap}
 use Rattle.drawing.proofs.Laws.Draw.{rows-capped, weighs-less, weighs-other}
 use Rattle.drawing.proofs.drawing.weighs_best.Statement.{statement}
 use Rattle.drawing.proofs.drawing.weighs_best.Tie as tie

@@ -5,7 +5,7 @@ use mathlib.Core.Logic.{⊎-elim}
 use Prim.Native.Nat.{_+_, _-_, _*_, _≤_}
 use native.Mathlib.Omega.{arith}
 use denote.Ref.{now}
-use Rattle.kept.specs.View.{wordValues}
+use Rattle.laws.specs.Limits.{wordValues}
 use Rattle.drawing.specs.Marked.{scoredTo}
 use Rattle.drawing.proofs.Laws.Marked.{scoredTo-fails, scoredTo-keeps, scoredTo-skips}
 use Rattle.drawing.proofs.marks.are_scored.Statement.{statement}

@@ -6,7 +6,7 @@ use Prim.Native.Nat.{_+_, _-_, _*_, _≤_, _<_}
 use native.Mathlib.Omega.{arith}
 use denote.Ref.{now}
 use lib.ListN.{length}
-use Rattle.kept.specs.View.{rowCap, wordValues}
+use Rattle.laws.specs.Limits.{rowCap, wordValues}
 use Rattle.drawing.specs.Marked.{membersTo}
 use Rattle.drawing.specs.Gathered.{Holds}
 use Rattle.drawing.proofs.Laws.Marked.{length-membersTo-le, membersTo-takes, membersTo-skips}

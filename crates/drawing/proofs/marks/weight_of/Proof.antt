@@ -7,7 +7,7 @@ use native.Mathlib.Omega.{arith}
 use denote.Ref.{now}
 use lib.IntN.{pos}
 use lib.ListN.{getD}
-use Rattle.kept.specs.View.{wordValues}
+use Rattle.laws.specs.Limits.{wordValues}
 use Rattle.drawing.specs.Marked.{weightTo}
 use Rattle.drawing.proofs.Laws.Weighed.{Weighed, cast-fits, weighed-sum, weighed-fits, weighed-none, weighed-takes, weighed-skips}
 use Rattle.drawing.proofs.marks.weight_of.Statement.{statement}

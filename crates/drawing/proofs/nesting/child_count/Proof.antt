@@ -9,13 +9,13 @@ use borrow.Author.Needs.{needs}
 use borrow.Author.Tests.{not-true, not-false}
 use lib.ListN.{length}
 use Rattle.laws.specs.Cluster.{strict}
-use Rattle.laws.specs.Lists.{some}
+use Rattle.laws.specs.Lists.{any}
 use Rattle.drawing.proofs.Laws.Scan.{CountFrom, count-none, count-le, count-more, count-same, count-end}
 use Rattle.drawing.proofs.nesting.child_count.Statement.{statement}
 use Rattle.drawing.proofs.nesting.child_count.Tie as tie
 
 abbrev Inv-loop : tie.InvT-loop
-Inv-loop xs m count₀ i₀ count i = CountFrom (λ (k : ℕ). strict k m && not (some (λ (l : ℕ). strict l m && strict k l) xs)) xs count i
+Inv-loop xs m count₀ i₀ count i = CountFrom (λ (k : ℕ). strict k m && not (any (λ (l : ℕ). strict l m && strict k l) xs)) xs count i
 
 abbrev μ-loop : tie.MeasureT-loop
 μ-loop xs m count₀ i₀ count i = length xs - i

@@ -8,8 +8,7 @@ use native.Mathlib.Omega.{arith}
 use borrow.Author.Needs.{needs}
 use borrow.Author.Tests.{not-true, not-false}
 use denote.Ref.{now}
-use Rattle.laws.specs.Limits.{narrow}
-use Rattle.kept.specs.View.{wordValues}
+use Rattle.laws.specs.Limits.{narrow, wordValues}
 use Rattle.drawing.proofs.Laws.TreeTest.{hasTaxon, hasTaxa, taxon-shift, taxa-more, taxa-stop}
 use Rattle.drawing.proofs.nesting.has_taxa.Statement.{statement}
 use Rattle.drawing.proofs.nesting.has_taxa.Tie as tie

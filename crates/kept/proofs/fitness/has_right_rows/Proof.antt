@@ -9,7 +9,8 @@ use lib.ListN.{getD}
 use mir.Facts.{toZ-ofZ}
 use mir.Syntax.{w32, w64}
 use mir.Val.{SFits}
-use Rattle.kept.specs.View.{rowCap, entryAt}
+use Rattle.laws.specs.Limits.{rowCap}
+use Rattle.kept.specs.View.{entryAt}
 use Rattle.kept.specs.Fitness.{isRowRight, hasRightRows}
 use Rattle.kept.proofs.Laws.Fitness.{passed, failed, right-more, right-stop, right-none}
 use Rattle.kept.proofs.fitness.has_right_rows.Statement.{statement}

@@ -6,7 +6,7 @@ use native.Mathlib.Omega.{arith}
 use borrow.Author.Needs.{needs}
 use lib.ListN.{replicate}
 use Rattle.kept.specs.declared.table.Table.{Table}
-use Rattle.kept.specs.View.{rowCap}
+use Rattle.laws.specs.Limits.{rowCap}
 use Rattle.kept.specs.Rows.{placeOf}
 use Rattle.drawing.specs.Draw.{leafRow, drawRefusal}
 use Rattle.drawing.specs.Gathered.{textCap}

@@ -11,8 +11,8 @@ use lib.ListN.{getD}
 use mir.Facts.{toZ-ofZ}
 use mir.Syntax.{w64}
 use mir.Val.{Fits}
+use Rattle.laws.specs.Limits.{wordValues}
 use Rattle.laws.proofs.Tests.{true-T}
-use Rattle.kept.specs.View.{wordValues}
 use Rattle.kept.specs.Fit.{isFit}
 use Rattle.kept.specs.Rows.{hasRow}
 use Rattle.kept.specs.Arrays.{Sized}

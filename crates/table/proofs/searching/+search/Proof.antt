@@ -9,11 +9,11 @@ use borrow.Fn.Kinds.{In}
 use borrow.Fn.PlainCycle.{Measures, is, falls, and}
 use lib.ListN.{getD}
 use Rattle.laws.specs.Cluster.{highest}
+use Rattle.laws.specs.Limits.{wordValues}
 use Rattle.laws.proofs.Cluster.{le-of-inside}
 use Rattle.laws.proofs.Tests.{true-T}
 use Rattle.cluster.proofs.highest.Reads as highest-reads
 use Rattle.cluster.proofs.is_inside.Reads as is-inside-reads
-use Rattle.kept.specs.View.{wordValues}
 use Rattle.table.specs.declared.tally.Tally.{Tally}
 use Rattle.table.specs.Searched.{Columns, columns, Searchable}
 use Rattle.table.proofs.Tuples.Readable.{LowWords}

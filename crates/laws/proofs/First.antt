@@ -1,4 +1,4 @@
--- The first place that passes a test, `firstFrom` of `specs/Changes.antt`: refusals 5 and 6 of a list are told so.
+-- The first place that passes a test, `firstFrom` of `specs/Lists.antt`.
 --     first-passed, first-stopped, first-ended     one step of a loop over the places, and its two ends
 --     first-low, first-high     where it lies
 --     first-before, first-at    no place before it passes, and it passes itself where it is one of the places
@@ -10,7 +10,7 @@ use Prim.Native.Nat.{ℕ, zero, suc, _+_, _-_, _≤_, _<_}
 use native.Mathlib.Decide.{decLe}
 use native.Mathlib.Numerals.{add-one}
 use native.Mathlib.Omega.{arith}
-use Rattle.table.specs.Changes.{firstFrom}
+use Rattle.laws.specs.Lists.{firstFrom}
 
 module _ (p : ℕ → Bool) where
   -- ---- a loop over the places below n

@@ -1,0 +1,17 @@
+-- The states of a record or a row (document 01, "The record"): 1 is scored, 0 is unscored. Said here once: a further state is a line here.
+--     unscored       the number of the state without a score
+--     scored s       the state s is that of a scored cluster
+--     isState s      s is a state
+-- Assumes nothing.
+use mathlib.Core.Bool.{Bool, _||_}
+use Prim.Native.Nat.{ℕ}
+use lib.Dec.{eqb}
+
+abbrev pub unscored : ℕ
+unscored = 0
+
+unfoldable pub scored : ℕ → Bool
+scored s = eqb s 1
+
+abbrev pub isState : ℕ → Bool
+isState s = eqb s unscored || scored s
