@@ -28,7 +28,7 @@ use Rattle.trees.specs.Result.{Result, blank}
 use Rattle.trees.specs.Built.{builtTable}
 use Rattle.trees.specs.Rescored.{putScore, workedOut, again, rescored}
 use Rattle.trees.proofs.Rescore.{put-cluster, put-other, again-clusters}
-use Rattle.trees.proofs.Bounds.TupleBound.{few-narrow}
+use Rattle.laws.proofs.Width.{narrow-facts}
 use Rattle.kept.specs.declared.table.Table.{Table}
 use Rattle.kept.specs.View.{entryAt, entriesOf, tableOf}
 use Rattle.kept.specs.Fit.{keepsRules, fitEntry, isFit}
@@ -109,7 +109,7 @@ module _ (d c : ℕ) (es : List (Entry Result)) (k : Rows d es) where
       each : (e : Entry Result) → Mem e (again F c es) → T (fitEntry narrow (map cl es) e)
       each =
           again-fit narrow (lit≤ tt) d c (map cl es) (k .falls) (nonzero-rows d es k) es listed
-          (few-narrow d (length es - 1) (k .high) (omega (arith, k .some, k .capped))) f
+          (narrow-facts .tuples d (length es - 1) (k .high) (omega (arith, k .some, k .capped))) f
 
   pub again-table-fit : ((e : Entry Result) → Mem e es → (T (inside c (cl e)) → ⊥) → T (fitEntry narrow (map cl es) e))
       → T (isFit (tableOf d (again F c es)))

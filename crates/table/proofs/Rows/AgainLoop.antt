@@ -28,7 +28,7 @@ use Rattle.cluster.proofs.Laws.Rule.{Keeps}
 use Rattle.trees.specs.Rows.{Entry, cl}
 use Rattle.trees.specs.Result.{Result}
 use Rattle.trees.specs.Rescored.{ownMark, workedOut, againIf, again}
-use Rattle.trees.proofs.Bounds.TupleBound.{few-narrow}
+use Rattle.laws.proofs.Width.{narrow-facts}
 use Rattle.kept.specs.declared.table.Table.{Table}
 use Rattle.kept.specs.View.{rowAt, entryAt, entriesOf, tableOf}
 use Rattle.kept.specs.Fit.{isEmpty, keepsRules, fitEntry}
@@ -159,7 +159,7 @@ module _ (given : Table) (c : ℕ) (w : Workable given c) where
         again-fit narrow (lit≤ tt) d c cs (given-falls (given .rows) (omega arith)) given-full
         (entriesOf given i) (given-listed i (p .within))
         (subst (λ (n : ℕ). few (n - 1) (d - 1) ≤ narrow .lengthMax) (sym (entries-length given i))
-        (few-narrow d (i - 1) (w .high) (omega (arith, p .within, w .capped, w .some))))
+        (narrow-facts .tuples d (i - 1) (w .high) (omega (arith, p .within, w .capped, w .some))))
         (given-others i (p .within)) (entryAt t j) (subst (Mem (entryAt t j)) (p .done) (mem-entries t i j h))
 
     -- what is known of the given clusters is known of those of t
