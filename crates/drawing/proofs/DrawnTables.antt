@@ -32,8 +32,9 @@ use Rattle.trees.proofs.Formula.Rows.{givenOf}
 use Rattle.trees.proofs.Theorems.{none-iff}
 use Rattle.trees.proofs.Sets.TreeFacts.{Given}
 use Rattle.shapes.specs.Drawn.{ascending, textOf}
+use Rattle.shapes.specs.Nests.{TreeOn}
 use Rattle.shapes.proofs.Backward.{text-reverse}
-use Rattle.shapes.proofs.Theorems.{TreeOn, trees-on, text-length-narrow, list-length-le}
+use Rattle.shapes.proofs.Theorems.{trees-on, text-length-narrow, list-length-le}
 use Rattle.kept.specs.declared.table.Table.{Table}
 use Rattle.kept.specs.Fit.{isFit}
 use Rattle.table.proofs.Fitting.FitTables.{Accepted, built-fit}

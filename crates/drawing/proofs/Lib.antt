@@ -13,10 +13,8 @@ pub mod DrawnLists
 pub mod DrawnChanges
 -- the child with a taxon, as the writer of a text looks for it
 pub mod PartWith
--- bytes stored one after another
-pub mod Stores
--- a part that the writer may write
-pub mod Writable
+-- a set of clusters that passes the test of a tree
+pub mod Tested
 -- what the writer has left to write
 pub mod Written
 -- one outcome of asking for a tree or a text

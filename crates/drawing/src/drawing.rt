@@ -10,7 +10,8 @@ use crate::marks::are_scored;
 use crate::marks::members_of;
 use crate::marks::weight_of;
 use crate::nesting::is_tree;
-use crate::writing::put_text;
+use crate::writing::text_of;
+use bytes::copy;
 use cluster::Answer;
 use cluster::Refusal;
 use table::Table;
@@ -109,18 +110,6 @@ fn put_clusters(clusters: &[u64], room: &mut [u32])
     }
 }
 
-// Bytes at the start of a room.
-fn put_bytes(bytes: &[u8], room: &mut [u8])
-    requires { ⌜ length (now bytes) ≤ length (now room) ⌝ }
-    ensures { λ _. ⌜ now (room .exit) ≡ now (bytes .entry) ++ drop (length (now (bytes .entry))) (now (room .entry)) ⌝ }
-{
-    let mut i = 0;
-    while i < bytes.len() {
-        room[i] = bytes[i];
-        i += 1;
-    }
-}
-
 // The clusters of the first heaviest tree on the leaf set, ascending, at the start of a room counted in numbers; the answer tells how many.
 // Refused 8 (fitness), 7, 8 (marks), 11 in that order, and the room is then left as it was.
 pub fn tree(t: Table, room: &mut [u32]) -> Answer
@@ -152,11 +141,12 @@ pub fn text(t: Table, room: &mut [u8]) -> Answer
     let size = members.size;
     let xs = members.clusters;
     let top = leaf_set(t);
-    let mut bytes = [0u8; 148];
-    let n = put_text(&xs[..size], top, &mut bytes);
+    let text = text_of(&xs[..size], top);
+    let bytes = text.bytes;
+    let n = text.size;
     if room.len() < n {
         return Answer::Refused(Refusal::NoRoom);
     }
-    put_bytes(&bytes[..n], room);
+    copy(&bytes[..n], room);
     Answer::Done(n)
 }

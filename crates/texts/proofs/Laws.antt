@@ -1,5 +1,6 @@
 -- Texts in the making.
 --     with-room, with-none     one byte more where there is room for it, and where there is none
+--     with-nil                 no byte more
 --     with-append              bytes one after another are all of them at once
 --     with-more, with-all      a loop over bytes: one more, and the end
 --     with-low, with-high      a number below ten is one figure; another is a tenth of it and then the last figure
@@ -22,31 +23,42 @@ use Rattle.texts.specs.Text.{textCap, holding, withByte, withBytes}
 
 module _ (t : Text) (b : ℕ) where
   pub with-none : textCap ≤ t .size → t ≡ withByte t b
+  unfolding withByte
   with-none h = rw (le-ltb (t .size) textCap h) refl
 
   pub with-room : t .size < textCap → record { bytes = set (t .bytes) (t .size) b; size = t .size + 1 } ≡ withByte t b
+  unfolding withByte
   with-room h = rw (lt-ltb (t .size) textCap h) refl
 
 -- ---- several
 
+pub with-nil : (t : Text) → withBytes t [] ≡ t
+unfolding withBytes
+with-nil t = refl
+
 pub with-append : (t : Text) (a b : List ℕ) → withBytes t (a ++ b) ≡ withBytes (withBytes t a) b
+unfolding withBytes
 with-append t [] b = refl
 with-append t (x ∷ a) b = with-append (withByte t x) a b
 
 module _ (t : Text) (l : List ℕ) (i : ℕ) where
   pub with-more : i < length l → withBytes t (drop i l) ≡ withBytes (withByte t (getD l i 0)) (drop (i + 1) l)
+  unfolding withBytes
   with-more h = rw (add-one i, drop-cons l i 0 h)
 
   pub with-all : length l ≤ i → withBytes t (drop i l) ≡ t
+  unfolding withBytes
   with-all h = rw (drop-of-length-le l h)
 
 -- ---- a number
 
 module _ (t : Text) (n : ℕ) where
   pub with-low : n < 10 → withByte t (figure n) ≡ withBytes t (decimal n)
+  unfolding withBytes
   with-low h = rw (decimal-one n h) refl
 
   pub with-high : 10 ≤ n → withByte (withBytes t (decimal (n / 10))) (figure (n % 10)) ≡ withBytes t (decimal n)
+  unfolding withBytes
   with-high h = rw (decimal-high n h) (sym (with-append t (decimal (n / 10)) (figure (n % 10) ∷ [])))
 
 -- ---- where there is room
@@ -69,6 +81,7 @@ one-held l b h =
         ∙ sym (append-assoc l (b ∷ []) zeros)
 
 pub with-held : (l m : List ℕ) → length (l ++ m) ≤ textCap → withBytes (holding l) m ≡ holding (l ++ m)
+unfolding withBytes
 with-held l [] h = ap holding (sym (append-nil l))
 with-held l (b ∷ m) h =
     let one = append-assoc l (b ∷ []) m in

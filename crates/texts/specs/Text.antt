@@ -17,9 +17,9 @@ textCap = 172
 abbrev pub holding : List ℕ → Text
 holding l = record { bytes = l ++ replicate (textCap - length l) 0; size = length l }
 
-abbrev pub withByte : Text → ℕ → Text
+unfoldable pub withByte : Text → ℕ → Text
 withByte t b = cond (ltb (t .size) textCap) (record { bytes = set (t .bytes) (t .size) b; size = t .size + 1 }) t
 
-abbrev pub withBytes : Text → List ℕ → Text
+unfoldable pub withBytes : Text → List ℕ → Text
 withBytes t [] = t
 withBytes t (b ∷ l) = withBytes (withByte t b) l
