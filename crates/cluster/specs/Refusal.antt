@@ -25,9 +25,17 @@ numberOf BadScore = 10
 numberOf NoRoom = 11
 
 abbrev pub positionOf : Refusal → ℕ
+positionOf NoBytes = 0
+positionOf WrongLength = 0
+positionOf TooLong = 0
+positionOf DegreeOut = 0
 positionOf (BadRecord i) = i
 positionOf (Repeated i) = i
-positionOf f = 0
+positionOf NoTree = 0
+positionOf Unfit = 0
+positionOf NoRow = 0
+positionOf BadScore = 0
+positionOf NoRoom = 0
 
 pub record Sent : Type 0 where
   -- the refusal's number and position, both 0 on a success
