@@ -1,9 +1,9 @@
--- What document 01 demands of lists, each under one name ("The record", "What is sent back", "Strict marking"), over any width that is asked
--- for. The degree bound is the build's own.
---     accepts-iff                   a list is taken exactly when it is accepted, in the paper's words (`Accepted`); `accepted-iff`: no reason
---                                   applies exactly then
---     refuses-iff                   and a refusal is sent back exactly when it is the first that applies; what each says in words:
---                                   `empty-iff`, `long-iff`, `cut-iff`, `bad-iff`, `repeated-iff` (Laws/Reasons.antt)
+-- What document 01 demands of lists, each under one name ("The record", "What is sent back", "Strict marking"), over any width. The degree
+-- bound is the build's own.
+--     accepts-iff                   a list is taken exactly when it is accepted, in the paper's words (`Accepted`)
+--     accepted-iff                  no reason for refusing it applies exactly then
+--     refuses-iff                   a refusal is sent back exactly when it is the first that applies
+--     empty-iff, long-iff, cut-iff, bad-iff, repeated-iff (Laws/Reasons.antt)     what each reason says in words
 --     read-accepted                 what is given then: the rows of the list
 --     row-iff (Laws/Records.antt)   the rows of a list are its records
 --     rows-of-records, read-of-records     the order of records plays no part
@@ -125,7 +125,8 @@ module _ (W : Width) (l : List ℕ) where
       pub accepted-few : length (rowsOf W l) ≤ W .rows
       accepted-few =
           subst (λ (n : ℕ). n ≤ W .rows) (sym counted)
-          (le-of-mul-le-mul-left {k = W .recordBytes} (omega (arith, records-whole, a .short, facts .whole, mul-comm (W .rows) (W .recordBytes)))
+          (le-of-mul-le-mul-left {k = W .recordBytes}
+          (omega (arith, records-whole, a .short, facts .whole, mul-comm (W .rows) (W .recordBytes)))
           (omega (arith, facts .spare)))
 
       pub accepted-rules : Bytes l → (r : Row) → Mem r (rowsOf W l) → T (keepsRules W r)

@@ -3,8 +3,8 @@
 --     Bytes l                 every element is a byte
 --     KeepsAt, Repeats W l i  record i keeps the record rules; it has the cluster of an earlier record
 --     FirstBad, FirstRepeat W l i     record i is the first that breaks them; that repeats an earlier one
---     Accepted W l            a list that is taken: whole records, not none and not too many, every record keeps the rules, and none repeats
---                             an earlier one
+--     Accepted W l            a list that is taken: whole records, not none and not too many; every record keeps the rules, and none
+--                             repeats an earlier one
 --     HasCluster W l c        c is the cluster of a record
 --     Holds W l m             every record of l is one of m
 --     bytesOfRows W rs        the bytes of rows, one after the other, the smallest cluster first

@@ -7,5 +7,6 @@ pub mod Records
 pub mod Listing
 -- which lists are taken, in words, and lists that are written
 pub mod Accepted
--- what private functions cite: records by their positions, and their order
+-- what private functions cite: records read by their positions, and their order
+pub mod Read
 pub mod Order

@@ -17,7 +17,8 @@ ghost use Rattle.cluster.specs.declared.refusal.Answer.the-variants.{Done, Refu
 ghost use Rattle.cluster.specs.Outcome.{outcomeOf};
 ghost use Rattle.cluster.specs.Refusal.{sentOf};
 ghost use Rattle.lists.specs.Listing.{listed, listingOf, recordReasons, listEnded, readList};
-ghost use Rattle.lists.specs.Order.{Whole, Within, rowsFrom, through};
+ghost use Rattle.lists.specs.Read.{Whole, rowsFrom};
+ghost use Rattle.lists.specs.Order.{Within, through};
 
 // The longest list: 128 records.
 const LIST_BYTES: usize = 1536;

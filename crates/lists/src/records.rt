@@ -1,4 +1,4 @@
-// The records of a list, read by their positions. Cites `specs/Order.antt`.
+// The records of a list, read by their positions. Cites `specs/Read.antt`.
 //     Records       the records by their positions
 //     is_done       whether an answer is a success
 //     reading_at    one record of a list
@@ -14,7 +14,7 @@ ghost use Rattle.laws.specs.Limits.{narrow};
 ghost use Rattle.cluster.specs.Record.{recordBytes};
 ghost use Rattle.cluster.specs.Reading.{readingOf, readRecord};
 ghost use Rattle.lists.specs.Records.{bytesAt};
-ghost use Rattle.lists.specs.Order.{isDone, Whole, ReadTo};
+ghost use Rattle.lists.specs.Read.{isDone, Whole, ReadTo};
 
 // Element i of each array is record i; `read` is how many of them there are.
 pub(crate) struct Records {

@@ -10,12 +10,12 @@ use mathlib.Core.Logic.{_≢_}
 use mathlib.Core.Bool.{not}
 use mathlib.Core.Option.{Option, none, some}
 use mathlib.Core.List.{List, [], _∷_}
-use Prim.Native.Nat.{ℕ, _/_, _%_, _≤_, _<_}
+use Prim.Native.Nat.{ℕ, _%_, _≤_, _<_}
 use native.Mathlib.Omega.{arith}
 use borrow.Author.Tests.{eq-eqb, ne-eqb, lt-ltb, le-ltb}
 use lib.Dec.{eqb, ltb}
 use lib.ListN.{length, getD}
-use Rattle.laws.specs.Limits.{Width, narrow, rowCap}
+use Rattle.laws.specs.Limits.{Width, narrow}
 use Rattle.laws.specs.Lists.{firstFrom}
 use Rattle.laws.specs.Row.{Row}
 use Rattle.laws.proofs.Down.{down-ext}
@@ -23,7 +23,7 @@ use Rattle.laws.proofs.First.{first-high}
 use Rattle.cluster.specs.declared.refusal.Answer.the-variants.{Done, Refused}
 use Rattle.cluster.specs.declared.refusal.Refusal.{Refusal}
 use Rattle.cluster.specs.declared.refusal.Refusal.the-variants.{NoBytes, WrongLength, TooLong, BadRecord, Repeated}
-use Rattle.cluster.specs.Outcome.{outcomeOf, ended}
+use Rattle.cluster.specs.Outcome.{Outcome, outcomeOf, ended}
 use Rattle.cluster.specs.Reasons.{Reason, when, firstReason}
 use Rattle.cluster.specs.Record.{recordBytes}
 use Rattle.cluster.proofs.Laws.Reasons.{reason-told, reason-passed}
@@ -32,14 +32,16 @@ use Rattle.lists.specs.declared.records.Records.{Records}
 use Rattle.lists.specs.Records.{recordsIn, listedAt, rowsOf, breaks, firstBad, repeats, firstRepeat}
 use Rattle.lists.specs.Rows.{rowsTo}
 use Rattle.lists.specs.Listing.{Listed, listed, recordReasons, listReasons, listEnded, readList}
-use Rattle.lists.specs.Order.{through, rowFrom, HasClusters, ReadTo, Ordered, Within, Whole}
+use Rattle.lists.specs.Read.{rowFrom, ReadTo, Whole}
+use Rattle.lists.specs.Order.{through, HasClusters, Ordered, Within}
 
 module _ (W : Width) (l : List ℕ) where
   pub readList-is : readList W l ≡ listEnded W l (listReasons W l)
   unfolding readList
   readList-is = refl
 
-  pub ended-by : (rs : List Reason) {f : Option Refusal} → firstReason rs ≡ f → listEnded W l rs ≡ ended f (listed []) 0 (listed (rowsOf W l))
+  pub ended-by : (rs : List Reason) {f : Option Refusal} → firstReason rs ≡ f
+      → listEnded W l rs ≡ ended f (listed []) 0 (listed (rowsOf W l))
   ended-by rs e = ap (λ (f : Option Refusal). ended f (listed []) 0 (listed (rowsOf W l))) e
 
   -- ---- its length
@@ -144,8 +146,9 @@ module _ {l : List ℕ} {n : ℕ} (all : Whole l n) where
           ∙ known .order .rows all-placed (listedAt narrow l) has-clusters
           ∙ ap (rowsTo (listedAt narrow l)) (sym counted)
 
-      pub whole-done : listEnded narrow l (recordReasons narrow l)
-          ≡ outcomeOf (Done 0) (listed (through (rowFrom s) (o .places) n))
-      whole-done =
-          ended-by narrow l (recordReasons narrow l) none-applies
-          ∙ ap (λ (rs : List Row). outcomeOf (Done 0) (listed rs)) (sym rows-are)
+      pub whole-done : {x : Outcome Listed} → x ≡ outcomeOf (Done 0) (listed (through (rowFrom s) (o .places) n))
+          → x ≡ listEnded narrow l (recordReasons narrow l)
+      whole-done e =
+          e
+          ∙ ap (λ (rs : List Row). outcomeOf (Done 0) (listed rs)) rows-are
+          ∙ sym (ended-by narrow l (recordReasons narrow l) none-applies)

@@ -13,7 +13,6 @@ use lib.ListN.{length}
 use Rattle.laws.specs.Limits.{Width}
 use Rattle.laws.proofs.First.{found-iff, unfound-iff}
 use Rattle.laws.proofs.Tests.{eq→eqb, neq→, →neq}
-use Rattle.cluster.specs.declared.refusal.Refusal.{Refusal}
 use Rattle.cluster.specs.declared.refusal.Refusal.the-variants.{BadRecord, Repeated}
 use Rattle.cluster.specs.Refusal.{positionOf}
 use Rattle.lists.specs.Records.{recordsIn, breaks, firstBad, repeats, firstRepeat}

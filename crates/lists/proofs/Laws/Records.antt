@@ -22,7 +22,7 @@ use Rattle.laws.proofs.Keep.{elem→, →elem}
 use Rattle.laws.proofs.Tests.{T-true, T-false, true-T}
 use Rattle.cluster.specs.Record.{hasSpare}
 use Rattle.cluster.specs.Reading.{ruleOf}
-use Rattle.cluster.specs.Rule.{Keeps, isKept, keepsRules}
+use Rattle.cluster.specs.Rule.{isKept, keepsRules}
 use Rattle.cluster.proofs.Laws.Bytes.{numberAt-lt}
 use Rattle.cluster.proofs.Laws.Record.{taxa-bytes}
 use Rattle.cluster.proofs.Laws.Rule.{kept→keeps, keeps→kept, →rules}

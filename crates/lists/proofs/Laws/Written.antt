@@ -10,7 +10,7 @@ use mathlib.Core.Path.{_≡_, refl, sym, ap, ap₂, _∙_, subst}
 use mathlib.Core.Bool.{false}
 use mathlib.Core.List.{List, [], _∷_}
 use mathlib.Core.List.{List·Memᴰ as Mem, List·Memᴰ·head as here, List·Memᴰ·tail as there}
-use Prim.Native.Nat.{ℕ, suc, _+_, _*_, _/_, _%_, _≤_, _<_}
+use Prim.Native.Nat.{ℕ, _+_, _*_, _/_, _%_, _≤_, _<_}
 use native.Mathlib.Decide.{decLe}
 use native.Mathlib.Nat.{suc-mul, mul-le-mul-right, mul-pos, mul-div-cancel, mul-mod-left}
 use native.Mathlib.Omega.{arith}
@@ -125,6 +125,8 @@ module _ (W : Width) (facts : WidthFacts W) where
       filled = λ (e : length l ≡ 0). omega (arith, written-length rs, mul-pos some size-pos);
       short = rw (written-length rs, facts .whole) (mul-le-mul-right size few);
       whole = ap (λ (n : ℕ). n % size) (written-length rs) ∙ mul-mod-left (length rs) size;
-      kept = λ i h. let q = written-at rs i (omega (arith, written-records rs)) in keeps-row (bytesAt W l i) (q .0) (q .2) (rules (q .0) (q .1));
+      kept = λ i h.
+          let q = written-at rs i (omega (arith, written-records rs)) in
+          keeps-row (bytesAt W l i) (q .0) (q .2) (rules (q .0) (q .1));
       once = λ i h q. omega (arith, q .2, ascends (q .0) i (q .1) (omega (arith, written-records rs)));
     }

@@ -1,5 +1,5 @@
--- `lists::listing::arranged` meets its contract. The invariant: the listing has the first i rows of the order. The measure is the rows left.
--- Assumes nothing.
+-- `lists::listing::arranged` meets its contract. The invariant: the listing has the first i rows of the order. The measure is the rows
+-- left. Assumes nothing.
 use borrow.Author.Needs.{needs}
 use mathlib.Core.Path.{_≡_, refl, ap, _∙_}
 use Prim.Native.Nat.{ℕ, _-_, _≤_, _<_}
@@ -12,9 +12,9 @@ use mir.Val.{SFits}
 use Rattle.laws.specs.Limits.{rowCap}
 use Rattle.laws.specs.Row.{Row}
 use Rattle.laws.proofs.Down.{down-length}
-use Rattle.lists.specs.declared.listing.Listing.{Listing}
 use Rattle.lists.specs.Listing.{listingOf}
-use Rattle.lists.specs.Order.{rowsFrom, through}
+use Rattle.lists.specs.Read.{rowsFrom}
+use Rattle.lists.specs.Order.{through}
 use Rattle.lists.proofs.Laws.Arranged.{arrangedTo, arranged-next, arranged-ended}
 use Rattle.lists.proofs.listing.arranged.Statement.{statement}
 use Rattle.lists.proofs.listing.arranged.Tie as tie

@@ -41,7 +41,7 @@ arranged-requires c κs =
 returns-3 : tie.Need-returns-3
 returns-3 c =
     let p = placed (c .before) in
-    c .arranged .ensures ∙ sym (whole-done (start (p .before) .pre) (in-order (p .before)) (p .if2 .left))
+    whole-done (start (p .before) .pre) (in-order (p .before)) (p .if2 .left) (c .arranged .ensures)
 
 pub whole-spec : {M : Type 1} → statement M
 whole-spec =
