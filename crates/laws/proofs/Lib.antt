@@ -36,6 +36,8 @@ pub mod Lowest
 pub mod Split
 -- signed numbers and their bits in two's complement, of any width
 pub mod Signed
+-- lists put in order
+pub mod Sort
 -- what stands in ascending places, the largest first
 pub mod Down
 -- the first place that passes a test
