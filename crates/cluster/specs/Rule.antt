@@ -12,16 +12,16 @@ use mathlib.Core.Path.{_≡_}
 use mathlib.Core.Logic.{_≢_}
 use mathlib.Core.Bool.{Bool, true, false, not, _&&_, cond}
 use Prim.Native.Nat.{ℕ, _^_, _≤_}
-use lib.Dec.{T, eqb, leb, ltb}
+use lib.Dec.{T, eqb, ltb}
 use lib.IntN.{ℤ, pos, natAbs}
-use Rattle.laws.specs.Limits.{Width, weightMax}
+use Rattle.laws.specs.Limits.{Width, weightMax, isWithin}
 use Rattle.laws.specs.State.{unscored, isState}
 use Rattle.laws.specs.Row.{Row}
 use Rattle.cluster.specs.declared.rule.Rule.{Rule}
 use Rattle.cluster.specs.declared.rule.Rule.the-variants.{Kept, EmptyCluster, UnknownState, SpareBytes, UnscoredWeight, WeightRange}
 
 abbrev pub inRange : ℤ → Bool
-inRange z = leb (natAbs z) weightMax
+inRange = isWithin weightMax
 
 abbrev pub unscoredWeight : ℤ → ℕ → Bool
 unscoredWeight z s = eqb s unscored && not (eqb (natAbs z) 0)

@@ -6,7 +6,7 @@
 //     Record                                                    a record
 //     Rule, broken_rule, is_kept, is_score                      the record rules
 //     Reading, read_record, write_record                        twelve bytes to a record, and back
-//     RECORD_BYTES                                              how many bytes a record has
+//     RECORD_BYTES, WEIGHT_MAX                                  how many bytes a record has, and the largest weight
 mod bytes;
 mod leaves;
 mod reading;
@@ -30,6 +30,7 @@ pub use refusal::Answer;
 pub use refusal::Refusal;
 pub use refusal::number_of;
 pub use rule::Rule;
+pub use rule::WEIGHT_MAX;
 pub use rule::broken_rule;
 pub use rule::is_kept;
 pub use rule::is_score;

@@ -12,7 +12,7 @@ ghost use Rattle.cluster.specs.Rule.{inRange, unscoredWeight, brokenRule
 const UNSCORED: u8 = 0;
 
 // The largest weight, either way.
-const WEIGHT_MAX: i32 = 1000000;
+pub const WEIGHT_MAX: i32 = 1000000;
 
 // The record rule that is broken first, in this order.
 pub enum Rule {

@@ -1,5 +1,6 @@
 -- A record and its bytes, there and back, over any width.
 --     bytesOf-length, bytesOf-rule     how many bytes a row has, and the rule that they break is the row's
+--     taxa-bytes         the clusters of a width are the numbers that their bytes hold
 --     rowOf-bytes        the row of the bytes of a row that keeps the rules is that row
 --     bytesOf-row        the bytes of the row of a record's bytes are those bytes, where the spare ones are zero
 --     recordOf-bytes     the same of a narrow record
@@ -53,6 +54,9 @@ stored-is r l h k =
 
 -- ---- the bytes of a row
 
+pub taxa-bytes : (W : Width) → WidthFacts W → 2 ^ W .taxa ≡ byteValues ^ W .clusterBytes
+taxa-bytes W facts = ap (λ (n : ℕ). 2 ^ n) (facts .cluster) ∙ byteValues-pow (W .clusterBytes)
+
 module _ (W : Width) (r : Row) where
   abbrev k : ℕ
   k = W .clusterBytes
@@ -97,8 +101,7 @@ module _ (W : Width) (r : Row) where
 
   module _ (facts : WidthFacts W) (h : T (keepsRules W r)) where
     small : r .cluster < byteValues ^ W .clusterBytes
-    small =
-        subst (λ (n : ℕ). r .cluster < n) (ap (λ (n : ℕ). 2 ^ n) (facts .cluster) ∙ byteValues-pow (W .clusterBytes)) (rules→ W r h .0)
+    small = subst (λ (n : ℕ). r .cluster < n) (taxa-bytes W facts) (rules→ W r h .0)
 
     fits : SFits w32 (r .weight)
     fits = record { sfits = omega (arith, mag-le-abs (r .weight), rules→ W r h .1 .score .in-range) }

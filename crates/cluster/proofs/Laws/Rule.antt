@@ -1,24 +1,22 @@
 -- The record rules: which one is told, and what is known of a cluster, a weight and a state that break none.
 --     rule-empty, rule-state, rule-spare, rule-unscored, rule-last     each rule in its turn
 --     score-state, score-unscored, score-last     weight and state, one test after the other
---     range-low, range-high     the range of a weight, one end after the other
 --     score→keeps, keeps→score  weight and state keep the rules exactly where `KeepsScore` holds
 --     kept→keeps, keeps→kept    no rule is broken exactly where `Keeps` holds
 --     rules→, →rules            the same of a row, its cluster being within the width
 -- Assumes nothing.
-use mathlib.Core.Path.{_≡_, refl, sym, ap}
+use mathlib.Core.Path.{_≡_, refl, ap}
 use mathlib.Core.Logic.{_≢_}
 use mathlib.Core.Bool.{Bool, true, false, not, _&&_, cond}
-use Prim.Native.Nat.{ℕ, suc, _^_, _<_}
-use native.Mathlib.Omega.{arith}
-use borrow.Author.Tests.{eq-eqb, ne-eqb, le-leb, lt-leb, ltb-true, ltb-false}
+use Prim.Native.Nat.{ℕ, _^_, _<_}
+use borrow.Author.Tests.{eq-eqb, ne-eqb}
 use lib.Dec.{T, eqb, ltb, eqb→eq, leb→le, le→leb, ltb→lt, lt→ltb, T-not, not-T}
-use lib.IntN.{ℤ, pos, negsuc, natAbs, negℤ}
-use lib.Signed.{leZ, ltZ}
+use lib.IntN.{ℤ, pos, natAbs}
 use mir.Facts.{T-not-not}
 use Rattle.laws.specs.Limits.{Width, weightMax}
 use Rattle.laws.specs.Row.{Row}
 use Rattle.laws.specs.State.{unscored, isState}
+use Rattle.laws.proofs.Integers.{zero-of-abs}
 use Rattle.laws.proofs.Tests.{T-and, and-T, T-false, neq→, →neq}
 use Rattle.cluster.specs.declared.rule.Rule.the-variants.{Kept, EmptyCluster, UnknownState, SpareBytes, UnscoredWeight, WeightRange}
 use Rattle.cluster.specs.Rule.{inRange, unscoredWeight, brokenRule, isKept, isScore, keepsRules, KeepsScore, Keeps}
@@ -64,21 +62,7 @@ module _ (z : ℤ) (s : ℕ) where
     unfolding isScore
     score-last e = rw (state, e) refl
 
--- ---- the range of a weight
-
-pub range-low : (z : ℤ) → ltZ z (negℤ (pos weightMax)) ≡ true → inRange z ≡ false
-range-low (pos n) e = let z : _≡_ {A = ℕ} 0 1 = cc in absurd (omega arith)
-range-low (negsuc n) e = lt-leb (suc n) weightMax (omega (arith, ltb-true 999999 n e))
-
-pub range-high : (z : ℤ) → ltZ z (negℤ (pos weightMax)) ≡ false → leZ z (pos weightMax) ≡ inRange z
-range-high (pos n) e = refl
-range-high (negsuc n) e = sym (le-leb (suc n) weightMax (omega (arith, ltb-false 999999 n e)))
-
 -- ---- weight and state as facts
-
-zero-of-abs : (z : ℤ) → natAbs z ≡ 0 → z ≡ pos 0
-zero-of-abs (pos n) e = ap pos e
-zero-of-abs (negsuc n) e = absurd (omega arith)
 
 module _ (z : ℤ) (s : ℕ) where
   -- unscored with a weight is ruled out exactly where the weight of an unscored cluster is zero
