@@ -2,6 +2,7 @@
 --     with-room, with-none     one byte more where there is room for it, and where there is none
 --     with-nil                 no byte more
 --     with-append              bytes one after another are all of them at once
+--     with-then                so it is of what two calls gave, one after the other
 --     with-more, with-all      a loop over bytes: one more, and the end
 --     with-low, with-high      a number below ten is one figure; another is a tenth of it and then the last figure
 --     with-held, text-held     where there is room, a text of bytes with more bytes is that of all of them; so it is from no bytes on
@@ -40,6 +41,9 @@ pub with-append : (t : Text) (a b : List ℕ) → withBytes t (a ++ b) ≡ withB
 unfolding withBytes
 with-append t [] b = refl
 with-append t (x ∷ a) b = with-append (withByte t x) a b
+
+pub with-then : (t : Text) (a b : List ℕ) {r s : Text} → r ≡ withBytes t a → s ≡ withBytes r b → s ≡ withBytes t (a ++ b)
+with-then t a b p q = q ∙ ap (λ (x : Text). withBytes x b) p ∙ sym (with-append t a b)
 
 module _ (t : Text) (l : List ℕ) (i : ℕ) where
   pub with-more : i < length l → withBytes t (drop i l) ≡ withBytes (withByte t (getD l i 0)) (drop (i + 1) l)
