@@ -4,10 +4,10 @@
 //     add_comma      the comma before each child but the first
 //     add_part       one part: its taxon, or its children in order of their smallest taxon
 //     text_of        the whole text
-use crate::nesting::is_strict;
 use cluster::is_inside;
 use cluster::is_single;
 use cluster::lowest;
+use members::is_strict;
 use texts::Text;
 use texts::add;
 use texts::add_decimal;

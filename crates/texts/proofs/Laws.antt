@@ -6,6 +6,7 @@
 --     with-more, with-all      a loop over bytes: one more, and the end
 --     with-low, with-high      a number below ten is one figure; another is a tenth of it and then the last figure
 --     with-held, text-held     where there is room, a text of bytes with more bytes is that of all of them; so it is from no bytes on
+--     text-front, text-fits, text-count     the bytes that a text holds are the first of its array
 -- Assumes nothing.
 use mathlib.Core.Path.{_≡_, refl, sym, ap, ap₂, _∙_}
 use mathlib.Core.List.{List, [], _∷_, _++_, append-assoc, append-nil}
@@ -13,8 +14,8 @@ use Prim.Native.Nat.{ℕ, suc, _+_, _-_, _/_, _%_, _≤_, _<_}
 use native.Mathlib.Numerals.{add-one}
 use native.Mathlib.Omega.{arith}
 use borrow.Author.Tests.{lt-ltb, le-ltb}
-use lib.ListN.{length, length-append, getD, replicate, set, drop, drop-of-length-le}
-use lib.Seq.{drop-cons, set-at}
+use lib.ListN.{length, length-append, getD, replicate, set, take, drop, drop-of-length-le}
+use lib.Seq.{drop-cons, set-at, take-at}
 use Rattle.shapes.specs.Decimal.{figure, decimal}
 use Rattle.shapes.proofs.Decimal.{decimal-one, decimal-high}
 use Rattle.texts.specs.declared.text.Text.{Text}
@@ -95,3 +96,15 @@ with-held l (b ∷ m) h =
 
 pub text-held : (l : List ℕ) → length l ≤ textCap → withBytes (holding []) l ≡ holding l
 text-held l h = with-held [] l h
+
+module _ {t : Text} (l : List ℕ) (e : t ≡ holding l) where
+  pub text-front : take (t .size) (t .bytes) ≡ l
+  text-front = ap (λ (x : Text). take (x .size) (x .bytes)) e ∙ take-at l (replicate (textCap - length l) 0) (length l) refl
+
+  pub text-fits : t .size ≤ length (t .bytes)
+  text-fits =
+      let size = ap (λ (x : Text). x .size) e in
+      omega (arith, ap (λ (x : Text). length (x .bytes)) e, length-append l (replicate (textCap - length l) 0))
+
+  pub text-count : t .size ≡ length (take (t .size) (t .bytes))
+  text-count = ap (λ (x : Text). x .size) e ∙ ap length (sym text-front)

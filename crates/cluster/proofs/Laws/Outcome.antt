@@ -3,7 +3,8 @@
 --     ended-refused, ended-done     what an outcome tells of the refusal, and what was given
 --     accepts-iff       the number sent back is 0 exactly where no reason applies
 --     refuses-iff       a refusal is sent back exactly where it is the first that applies
---     written-refused, written-short, written-whole     writing into a room, by cases
+--     written-refused, written-passed     writing into a room: the first reason that applies; where none does, the room decides
+--     written-short, written-whole     by the room
 --     written-accepts-iff     it is written exactly where no reason applies and the room is long enough
 -- Assumes nothing.
 use mathlib.Core.Path.{_≡_, refl, sym, ap, _∙_}
@@ -75,6 +76,9 @@ module _ (rs : List Reason) (out l : List ℕ) where
 
   pub written-refused : (f : Refusal) → firstReason rs ≡ some f → written rs out l ≡ outcomeOf (Refused f) l
   written-refused f e = written-by (first-some rs no-room f e)
+
+  pub written-passed : firstReason rs ≡ none → written rs out l ≡ written [] out l
+  written-passed e = written-by (first-none rs no-room e)
 
   pub written-short : firstReason rs ≡ none → length l < length out → written rs out l ≡ outcomeOf (Refused NoRoom) l
   written-short e h = written-by (first-none rs no-room e ∙ reason-told (ltb (length l) (length out)) NoRoom [] (le-leb _ _ h))

@@ -16,7 +16,8 @@ returns c =
     let degree = word .before .before in
     let told = degree .before .before in
     let s = told .before in
-    let start = degree .add-decimal .ensures ∙ ap (λ (t : Text). withBytes t (decimal (s .args .degree))) (degree .before .empty .ensures) in
+    let start =
+    degree .add-decimal .ensures ∙ ap (λ (t : Text). withBytes t (decimal (s .args .degree))) (degree .before .empty .ensures) in
     let first = with-then _ _ _ start (word .add .ensures) in
     let second = with-then _ _ _ first (rw (told .number-of .ensures) at (number .add-decimal2 .ensures)) in
     let third = rw (told .number-of .ensures, place .before .position-of .ensures) at (place .add-place .ensures) in

@@ -25,7 +25,8 @@ returns c =
     let first = count .before in
     let degree = first .before .before in
     let s = degree .before .before .before in
-    let start = degree .add-decimal .ensures ∙ ap (λ (t : Text). withBytes t (decimal (s .args .degree))) (degree .before .empty .ensures) in
+    let start =
+    degree .add-decimal .ensures ∙ ap (λ (t : Text). withBytes t (decimal (s .args .degree))) (degree .before .empty .ensures) in
     let counted = with-then _ _ _ (with-then _ _ _ start (first .add .ensures)) (count .add-count .ensures) in
     let best = rw (toZ-ofZ (fits s)) at (weight .add-weight .ensures) in
     let weighed = with-then _ _ _ (with-then _ _ _ counted (second .add2 .ensures)) best in
