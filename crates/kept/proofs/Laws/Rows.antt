@@ -67,12 +67,12 @@ module _ (t : Table) (capped : t .rows ≤ rowCap) (c : ℕ) where
       cs = clustersDown (t .clusters) (t .rows)
 
       found : List·Memᴰ c cs → placeOf t c < t .rows
-      found m = let q = mem-down (λ (i : ℕ). getD (t .clusters) i 0) (t .rows) c m in placeOf-lt (q .0) (q .1) (sym (q .2))
+      found m = let q = mem-down _ (t .rows) c m in placeOf-lt (q .0) (q .1) (sym (q .2))
 
       back : T (ltb (placeOf t c) (t .rows)) → T (elem c cs)
       back h =
           let l = ltb→lt (placeOf t c) (t .rows) h in
-          →elem c cs (subst (λ (x : ℕ). List·Memᴰ x cs) (placeOf-at l) (down-mem (λ (i : ℕ). getD (t .clusters) i 0) (t .rows) (placeOf t c) l))
+          →elem c cs (subst (λ (x : ℕ). List·Memᴰ x cs) (placeOf-at l) (down-mem _ (t .rows) (placeOf t c) l))
 
 -- ---- unions
 pub union-more : (cs : List ℕ) (i : ℕ) → bitOr (unionOf (clustersDown cs i)) (getD cs i 0) ≡ unionOf (clustersDown cs (i + 1))

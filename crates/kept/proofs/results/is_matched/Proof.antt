@@ -1,5 +1,5 @@
--- `kept::results::is_matched` meets its contract: a count of zero by itself, and any other by the row's own mark, the two words of marks and
--- the best weight. Assumes nothing.
+-- `kept::results::is_matched` meets its contract: a count of zero by itself, and any other by the row's own mark, the two words of marks
+-- and the best weight. Assumes nothing.
 use borrow.Author.Needs.{needs}
 use borrow.Author.Tests.{eq-eqb}
 use mathlib.Core.Path.{_≡_, sym, _∙_}
