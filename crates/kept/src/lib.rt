@@ -16,6 +16,7 @@ pub use fitness::is_fit;
 pub use limits::COUNT_MAX;
 pub use limits::DEGREE_HIGH;
 pub use limits::DEGREE_LOW;
+pub use limits::ROW_CAP;
 pub use limits::WORD_ROWS;
 pub use rows::leaf_set;
 pub use rows::place_of;
