@@ -11,15 +11,14 @@
 -- Assumes nothing.
 use mathlib.Core.Path.{_≡_, refl, sym, ap, ap₂, _∙_}
 use mathlib.Core.Logic.{_↔_}
-use mathlib.Core.Bool.{Bool, true, false, not}
+use mathlib.Core.Bool.{Bool, true, false}
 use mathlib.Core.List.{List, _++_}
 use Prim.Native.Nat.{ℕ, _^_, _≤_, _<_}
-use lib.Dec.{T, eqb, ltb, eqb→eq, not-T}
+use lib.Dec.{T, eqb, ltb, eqb→eq}
 use lib.IntN.{ℤ}
 use lib.ListN.{length, getD, take, drop}
-use mir.Facts.{T-not-not}
 use Rattle.laws.specs.Limits.{narrow}
-use Rattle.laws.proofs.Tests.{T-and, T-true, true-T}
+use Rattle.laws.proofs.Tests.{T-and, T-true, T-of-not, true-T}
 use Rattle.laws.proofs.Width.{narrow-facts}
 use Rattle.cluster.specs.declared.reading.Reading.{Reading}
 use Rattle.cluster.specs.declared.record.Record.{Record}
@@ -55,9 +54,6 @@ write-only r room a b l m p q = outcome-only a b l m p q
 
 -- ---- accepted exactly when no rule is broken
 
-of-not : (b : Bool) → (T (not b) → ⊥) → T b
-of-not b h = T-not-not b (not-T (not b) h)
-
 pub kept-iff : (c : ℕ) (z : ℤ) (s : ℕ) (spare : Bool) → T (isKept (brokenRule c z s spare)) ↔ Keeps c z s spare
 kept-iff c z s spare = (kept→keeps c z s spare, keeps→kept c z s spare)
 
@@ -79,7 +75,7 @@ module _ (l : List ℕ) where
 
       accepted : NoneApplies (readReasons l) → (length l ≡ recordBytes) × (isKept (ruleOf narrow l) ≡ true)
       accepted k =
-          (eqb→eq (length l) recordBytes (of-not (eqb (length l) recordBytes) (k .0)), T-true bytesKept (of-not bytesKept (k .1 .0)))
+          (eqb→eq (length l) recordBytes (T-of-not (eqb (length l) recordBytes) (k .0)), T-true bytesKept (T-of-not bytesKept (k .1 .0)))
 
 module _ (r : Record) (room : List ℕ) where
   abbrev kept : Bool
@@ -96,7 +92,7 @@ module _ (r : Record) (room : List ℕ) where
       number e = ap (λ (o : Outcome (List ℕ)). o .sent .number) e
 
       accepted : NoneApplies (writeReasons r) × (recordBytes ≤ length room) → (kept ≡ true) × (recordBytes ≤ length room)
-      accepted k = (T-true kept (of-not kept (k .0 .0)), k .1)
+      accepted k = (T-true kept (T-of-not kept (k .0 .0)), k .1)
 
 -- ---- there and back again
 

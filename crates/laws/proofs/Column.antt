@@ -1,4 +1,5 @@
--- One field of rows in an array, `column` of `specs/Column.antt`: what it holds at a row, past the rows, and when an array is such a column.
+-- One field of rows in an array, `column` of `specs/Column.antt`: what it holds at a row and past the rows, and when an array is such a
+-- column.
 --     length-column, column-past     its length, and what stands past the rows
 --     column-first, column-rest      the element in front is the last row; the others stay where they are
 --     column-more, column-keep       one more row: one store, or none where it holds zero

@@ -83,7 +83,8 @@ module _ (p : ℕ → Bool) where
 
 -- ---- the places below n
 module _ (p : ℕ → Bool) (n : ℕ) where
-  pub found-iff : (i : ℕ) → (T (ltb (firstFrom p 0 n) n) × (firstFrom p 0 n ≡ i)) ↔ ((i < n) × (p i ≡ true) × ((j : ℕ) → j < i → p j ≡ false))
+  pub found-iff : (i : ℕ)
+      → (T (ltb (firstFrom p 0 n) n) × (firstFrom p 0 n ≡ i)) ↔ ((i < n) × (p i ≡ true) × ((j : ℕ) → j < i → p j ≡ false))
   found-iff i = (to, from)
     where
       to : T (ltb (firstFrom p 0 n) n) × (firstFrom p 0 n ≡ i) → (i < n) × (p i ≡ true) × ((j : ℕ) → j < i → p j ≡ false)

@@ -42,6 +42,8 @@ pub mod Sort
 pub mod Down
 -- the first place that passes a test
 pub mod First
+-- the states of a record
+pub mod State
 -- one field of rows in an array
 pub mod Column
 -- what is asked of a width holds of the paper's own

@@ -1,5 +1,6 @@
 -- How an operation ends.
 --     outcome-only      two answers, each with what was given, that have one outcome are equal
+--     ended-refused, ended-done     what an outcome tells of the refusal, and what was given
 --     accepts-iff       the number sent back is 0 exactly where no reason applies
 --     refuses-iff       a refusal is sent back exactly where it is the first that applies
 --     written-refused, written-short, written-whole     writing into a room, by cases
@@ -30,11 +31,24 @@ module _ {A : Type 0} where
   outcome-only a b x y p q =
       let e = p ∙ sym q in (sentOf-inj a b (ap (λ (o : Outcome A). o .sent) e), ap (λ (o : Outcome A). o .given) e)
 
+  -- out of an answer with what was given
+  pub ended-refused : (o : Option Refusal) (stays : A) (n : ℕ) (given : A) (f : Refusal) (x : A)
+      → ended o stays n given ≡ outcomeOf (Refused f) x → (o ≡ some f) × (x ≡ stays)
+  ended-refused (some g) stays n given f x e =
+      let q = outcome-only (Refused g) (Refused f) stays x e refl in let same = q .0 in (cc, sym (q .1))
+  ended-refused none stays n given f x e = let same = outcome-only (Done n) (Refused f) given x e refl .0 in (cc, cc)
+
+  pub ended-done : (o : Option Refusal) (stays : A) (n : ℕ) (given : A) (m : ℕ) (x : A)
+      → ended o stays n given ≡ outcomeOf (Done m) x → (o ≡ none) × (x ≡ given)
+  ended-done (some g) stays n given m x e = let same = outcome-only (Refused g) (Done m) stays x e refl .0 in (cc, cc)
+  ended-done none stays n given m x e = (refl, sym (outcome-only (Done n) (Done m) given x e refl .1))
+
   number→ : (f : Option Refusal) (stays : A) (n : ℕ) (given : A) → ended f stays n given .sent .number ≡ 0 → f ≡ none
   number→ (some f) stays n given e = absurd (number-pos f e)
   number→ none stays n given e = refl
 
-  sent→ : (o : Option Refusal) (stays : A) (n : ℕ) (given : A) (f : Refusal) → ended o stays n given .sent ≡ sentOf (Refused f) → o ≡ some f
+  sent→ : (o : Option Refusal) (stays : A) (n : ℕ) (given : A) (f : Refusal)
+      → ended o stays n given .sent ≡ sentOf (Refused f) → o ≡ some f
   sent→ (some g) stays n given f e = let same : Refused g ≡ Refused f = sentOf-inj (Refused g) (Refused f) e in cc
   sent→ none stays n given f e = let same : Done n ≡ Refused f = sentOf-inj (Done n) (Refused f) e in cc
 
