@@ -1,0 +1,2 @@
+-- what the functions are proved by, for the crates above too
+pub mod Laws
