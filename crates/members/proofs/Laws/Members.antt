@@ -1,6 +1,7 @@
 -- The members of the leaf set's row of a fit table, and the marks of a test.
 --     members-falling, members-once     they ascend, and none stands twice
 --     members-sound        none is empty, and each is within the width
+--     members-listed       each is the cluster of a scored row, where the marked rows are scored
 --     members-capped       an array has room for them
 --     Tells cs m p n       of the first n clusters, those are marked in m that pass p
 --     members-tell         then the members are the clusters that pass
@@ -19,12 +20,12 @@ use lib.IntN.{ℤ, pos, _+ℤ_}
 use lib.ListN.{length, getD}
 use Rattle.laws.specs.Limits.{narrow, rowCap}
 use Rattle.laws.specs.Lists.{keepIf, keep, Once, Falling, downTo}
-use Rattle.laws.specs.Row.{Row}
+use Rattle.laws.specs.Row.{Row, isScored}
 use Rattle.laws.specs.State.{scored}
 use Rattle.laws.proofs.Appended.{map-through, once-reverse}
 use Rattle.laws.proofs.Down.{mem-down, down-map}
 use Rattle.laws.proofs.Falling.{falling-once}
-use Rattle.laws.proofs.Keep.{→every, keep-ext, keep-map}
+use Rattle.laws.proofs.Keep.{every→, →every, keep-ext, keep-map}
 use Rattle.laws.proofs.Tests.{true-T}
 use Rattle.trees.specs.Heaviest.{weightIn}
 use Rattle.trees.specs.Rows.{cl}
@@ -34,7 +35,7 @@ use Rattle.kept.specs.Fit.{hasMark, isFit}
 use Rattle.kept.specs.Rows.{shownRows}
 use Rattle.kept.proofs.Laws.Fit.{FitTable, isFit→, fit→}
 use Rattle.members.specs.Marked.{markedTo, membersTo, scoredTo, total, weightTo}
-use Rattle.members.specs.Draw.{leafMarks, membersOf}
+use Rattle.members.specs.Draw.{leafMarks, membersOf, areScored}
 use Rattle.members.proofs.Laws.Marked.{mem-marked, length-members-le, mem-members, falling-members}
 
 -- ---- in a fit table
@@ -67,6 +68,14 @@ module _ (t : Table) (e : isFit t ≡ true) where
       let h = shown (mem-marked (leafMarks t) (shownRows t) i (q .1) .0) in
       let f = fit→ narrow (map cl (entriesOf t (t .rows))) (entryAt t i) (facts .fit i h) in
       (λ z. f .rules .has-taxon (sym (q .2) ∙ z), rw (q .2) (f .width))
+
+  pub members-listed : T (areScored t) → (c : ℕ) → Mem c (membersOf t)
+      → (i : ℕ) × (i < t .rows) × (c ≡ rowAt t i .cluster) × T (isScored (rowAt t i))
+  members-listed h c k =
+      let rows = markedTo (leafMarks t) (shownRows t) in
+      let q = mem-members (t .clusters) (leafMarks t) (shownRows t) c k in
+      let i = q .0 in
+      (i, shown (mem-marked (leafMarks t) (shownRows t) i (q .1) .0), q .2, every→ (λ (i : ℕ). scored (getD (t .states) i 0)) rows h i (q .1))
 
 -- ---- the marks of a test
 abbrev pub Tells : List ℕ → ℕ → (ℕ → Bool) → ℕ → Type 0

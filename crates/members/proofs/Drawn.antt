@@ -1,0 +1,126 @@
+-- What is known where something is drawn of a table, for the crates that draw it (document 01, "What is sent back" and "Drawing it").
+--     drawn-only          one outcome of `drawn_tree`: the answer, the row, every number of the array, and how many
+--     drawn-refused       what `drawn_tree` refuses is the first reason that applies
+--     Drawable W t        the table is fit, its leaf set has a row, and the members of that are a tree of listed scored clusters
+--     drawable            so it is where no reason applies
+--     Success W t r, drawn-done     a success of `drawn_tree`: no reason applies, and r holds the members
+-- Assumes nothing.
+use mathlib.Core.Path.{_≡_, refl, sym, ap, ap₂, _∙_}
+use mathlib.Core.Logic.{_≢_}
+use mathlib.Core.Bool.{Bool, true, false, not, _&&_}
+use mathlib.Core.Option.{Option, none, some, Option·some-ne-none}
+use mathlib.Core.List.{[], _∷_, reverse}
+use mathlib.Core.List.{List·Memᴰ as Mem}
+use Prim.Native.Nat.{ℕ, _^_, _<_}
+use native.Mathlib.Omega.{arith}
+use lib.Dec.{T}
+use Rattle.laws.specs.Limits.{Width, narrow}
+use Rattle.laws.specs.Lists.{Once, Falling}
+use Rattle.laws.specs.Row.{isScored}
+use Rattle.laws.proofs.Tests.{T-and, T-true}
+use Rattle.cluster.specs.declared.refusal.Answer.{Answer}
+use Rattle.cluster.specs.declared.refusal.Answer.the-variants.{Done, Refused}
+use Rattle.cluster.specs.declared.refusal.Refusal.{Refusal}
+use Rattle.cluster.specs.declared.refusal.Refusal.the-variants.{NoTree, Unfit}
+use Rattle.cluster.proofs.Laws.Refusal.{sentOf-inj}
+use Rattle.trees.specs.Tree.{isTree}
+use Rattle.kept.specs.declared.table.Table.{Table}
+use Rattle.kept.specs.View.{rowAt, resultAt}
+use Rattle.kept.specs.Fit.{isFit}
+use Rattle.kept.specs.Rows.{shownRows, leafSet}
+use Rattle.members.specs.declared.draw.Drawn.{Drawn}
+use Rattle.members.specs.Marked.{weightTo}
+use Rattle.members.specs.Outcome.{Outcome, outcomeOf, ended}
+use Rattle.members.specs.Reasons.{when, firstReason}
+use Rattle.members.specs.Draw.{leafRow, hasTree, leafMarks, membersOf, areScored, weighsBest, isDrawable, drawReasons}
+use Rattle.members.specs.Draw.{DrawnMembers, noMembers, drawnMembers, drawnTree, drawnOf}
+use Rattle.members.specs.Gathered.{Holds}
+use Rattle.members.proofs.Laws.Draw.{hasTree→, isSame→}
+use Rattle.members.proofs.Laws.Members.{members-falling, members-once, members-sound, members-listed}
+
+-- ---- the answer of an operation
+
+module _ {A : Type 0} where
+  ended-refused : (o : Option Refusal) (stays : A) (n : ℕ) (given : A) {a : Answer} {x : A} {f : Refusal}
+      → outcomeOf a x ≡ ended o stays n given → a ≡ Refused f → o ≡ some f
+  ended-refused (some g) stays n given {a} e h = let same = sentOf-inj a (Refused g) (ap (λ (o : Outcome A). o .sent) e) in cc
+  ended-refused none stays n given {a} e h = let same = sentOf-inj a (Done n) (ap (λ (o : Outcome A). o .sent) e) in cc
+
+  ended-done : (o : Option Refusal) (stays : A) (n : ℕ) (given : A) {a : Answer} {x : A} {k : ℕ}
+      → outcomeOf a x ≡ ended o stays n given → a ≡ Done k → (o ≡ none) × (x ≡ given)
+  ended-done (some g) stays n given {a} e h =
+      let same = sentOf-inj a (Refused g) (ap (λ (o : Outcome A). o .sent) e) in let z : _≡_ {A = ℕ} 0 1 = cc in absurd (omega arith)
+  ended-done none stays n given e h = (refl, ap (λ (o : Outcome A). o .given) e)
+
+-- ---- a table of which something is drawn
+
+pub record Drawable (W : Width) (t : Table) : Type 0 where
+  pub fit : isFit t ≡ true
+  pub row : leafRow t < t .rows
+  pub counted : resultAt t (leafRow t) .count ≢ 0
+  pub tree : isTree (W .taxa) (t .degree) (leafSet t) (membersOf t) ≡ true
+  pub weighs : weightTo (t .weights) (leafMarks t) (shownRows t) ≡ resultAt t (leafRow t) .best
+  -- each member is the cluster of a scored row; they ascend, and none stands twice
+  pub listed : (c : ℕ) → Mem c (membersOf t) → (i : ℕ) × (i < t .rows) × (c ≡ rowAt t i .cluster) × T (isScored (rowAt t i))
+  pub falls : Falling (reverse (membersOf t))
+  pub once : Once (membersOf t)
+  pub sound : (c : ℕ) → Mem c (membersOf t) → (c ≢ 0) × (c < 2 ^ narrow .taxa)
+
+module _ (W : Width) (t : Table) where
+  -- no reason applies where all tests pass
+  passed : (a b c : Bool) → firstReason (when (not a) Unfit ∷ when (not b) NoTree ∷ when (not c) Unfit ∷ []) ≡ none → T a × T b × T c
+  passed true true true e = (tt, tt, tt)
+  passed true true false e = absurd (Option·some-ne-none Unfit e)
+  passed true false c e = absurd (Option·some-ne-none NoTree e)
+  passed false b c e = absurd (Option·some-ne-none Unfit e)
+
+  pub drawable : firstReason (drawReasons W t) ≡ none → Drawable W t
+  drawable e =
+      let q = passed (isFit t) (hasTree t) (isDrawable W t) e in
+      let fit = T-true (isFit t) (q .0) in
+      let tree = hasTree→ t (q .1) in
+      let r = T-and (areScored t && weighsBest t) _ (q .2) in
+      let s = T-and (areScored t) (weighsBest t) (r .0) in record {
+        fit = fit;
+        row = tree .0;
+        counted = tree .1;
+        tree = T-true _ (r .1);
+        weighs = isSame→ _ _ (s .1);
+        listed = members-listed t fit (s .0);
+        falls = members-falling t fit;
+        once = members-once t fit;
+        sound = members-sound t fit;
+      }
+
+-- ---- what `drawn_tree` hands back
+
+pub record Success (W : Width) (t : Table) (r : Drawn) : Type 0 where
+  pub none : firstReason (drawReasons W t) ≡ none
+  pub table : Drawable W t
+  pub row : r .row ≡ leafRow t
+  pub members : Holds (r .clusters) (r .size) (membersOf t)
+
+module _ (W : Width) (t : Table) where
+  drawn-is : {o : Outcome DrawnMembers} → o ≡ drawnTree W t → o ≡ ended (firstReason (drawReasons W t)) noMembers 0 (drawnMembers t)
+  unfolding drawnTree
+  drawn-is e = e
+
+  pub drawn-only : (x y : Drawn) → drawnOf x ≡ drawnTree W t → drawnOf y ≡ drawnTree W t → x ≡ y
+  drawn-only x y p q =
+      let e = p ∙ sym q in
+      let a = sentOf-inj (x .answer) (y .answer) (ap (λ (o : Outcome DrawnMembers). o .sent) e) in
+      ap₂ (λ (a : Answer) (m : DrawnMembers). record { answer = a; row = m .row; clusters = m .clusters; size = m .size }) a
+      (ap (λ (o : Outcome DrawnMembers). o .given) e)
+
+  pub drawn-refused : {r : Drawn} {f : Refusal} → drawnOf r ≡ drawnTree W t → r .answer ≡ Refused f
+      → firstReason (drawReasons W t) ≡ some f
+  drawn-refused p h = ended-refused (firstReason (drawReasons W t)) noMembers 0 (drawnMembers t) (drawn-is p) h
+
+  pub drawn-done : {r : Drawn} {n : ℕ} → drawnOf r ≡ drawnTree W t → r .answer ≡ Done n → Success W t r
+  drawn-done p h =
+      let q = ended-done (firstReason (drawReasons W t)) noMembers 0 (drawnMembers t) (drawn-is p) h in record {
+        none = q .0;
+        table = drawable W t (q .0);
+        row = ap (λ (m : DrawnMembers). m .row) (q .1);
+        members = record { size = ap (λ (m : DrawnMembers). m .size) (q .1); clusters = ap (λ (m : DrawnMembers). m .clusters) (q .1) };
+      }
