@@ -23,7 +23,7 @@ ghost use Rattle.trees.specs.Tree.{children, isTree};
 const TAXA: u32 = 32;
 
 // Whether `a` lies inside `b` and is another cluster.
-fn is_strict(a: u64, b: u64) -> bool
+pub fn is_strict(a: u64, b: u64) -> bool
     ensures { λ r. ⌜ r ≡ strict a b ⌝ }
 {
     if a == b {
