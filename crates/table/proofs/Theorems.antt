@@ -18,7 +18,7 @@
 --   strict marking, one outcome for every input
 --     build-only (Laws/Build.antt)                  `build`
 --     rescore-only (RescoredTables.antt)            `rescore`
---     value-only (`cluster`, Theorems.antt)         `zero_table`, `is_fit`, `row_of`, `leaf_set`: the promise is an equation to a value
+--     value-only (`cluster`, Theorems.antt)         `zero_table`, `is_fit`, `place_of`, `leaf_set`: the promise is an equation to a value
 -- Definitions of changes and of rescoring once and again (`changedBytes`, `changeAll`, `rescoreAll`): `specs/Changes.antt`.
 -- Assumes nothing.
 use mathlib.Core.Path.{_≡_, refl, sym, ap, _∙_, subst}
@@ -63,7 +63,7 @@ use Rattle.table.proofs.Laws.Listing.{clusters-mem, clusters-has, elem-
 
 -- ---- the build of an accepted list
 
-pub build-fit : (l : List ℕ) (d : ℕ) → Accepted l d → Bytes l → T (isFit (buildTable l d .table))
+pub build-fit : (l : List ℕ) (d : ℕ) → Accepted l d → Bytes l → T (isFit narrow (buildTable l d .table))
 build-fit l d a byte = rw (built-table l d a) (built-fit d (rowsOf l) (accepted-rows l d byte a))
 
 -- ---- demand 3: rescoring a built table

@@ -38,7 +38,7 @@ isScore z s = isKept (brokenRule (record { cluster = 1; weight = z; state = s })
 
 abbrev pub rescoreRefusal : Table → ℕ → ℤ → ℕ → Option Refusal
 rescoreRefusal t c z s =
-    cond (not (isFit t)) (some Unfit)
+    cond (not (isFit narrow t)) (some Unfit)
     (cond (not (hasRow t c)) (some NoRow)
     (cond (not (isScore z s)) (some BadScore)
     none))

@@ -25,7 +25,7 @@ use Rattle.trees.specs.Kind.{Kind, overTuples, pairKind, countKind, solKind, Re
 use Rattle.trees.specs.Cover.{coversOf}
 use Rattle.kept.specs.declared.table.Table.{Table}
 use Rattle.kept.specs.Arrays.{Rising}
-use Rattle.kept.specs.Fit.{isTold}
+use Rattle.kept.specs.Results.{isMatched}
 use Rattle.table.specs.declared.tally.Tally.{Tally}
 use Rattle.table.specs.Tally.{decoded}
 
@@ -111,7 +111,7 @@ pub record Long (k : Columns) (n : ℕ) : Type 0 where
 pub record GoodRow (limit : ℕ) (cs : List ℕ) (r : Row) (v : Result) : Type 0 where
   pub counted : v .count ≤ limit
   pub marked : (v .mark ≡ 0) ⊎ ((v .mark ≡ 1) × (v .count ≡ limit))
-  pub told : T (isTold cs r v)
+  pub told : T (isMatched cs r v)
 
 -- the first n rows ascend, and the results of the scored ones may be added up; cs are the clusters of all rows
 pub record Sound (limit : ℕ) (k : Columns) (cs : List ℕ) (n : ℕ) : Type 0 where

@@ -17,9 +17,10 @@ use Rattle.trees.specs.Rows.{Entry}
 use Rattle.trees.specs.Result.{Result}
 use Rattle.trees.specs.Rescored.{workedOut, again}
 use Rattle.kept.specs.declared.table.Table.{Table}
-use Rattle.kept.specs.View.{rowAt, entryAt, entriesOf, tableOf}
-use Rattle.kept.specs.Fit.{keepsRules, fitEntry, blankFrom}
-use Rattle.kept.specs.Arrays.{clustersDown, Rising, Sized}
+use Rattle.kept.specs.View.{rowAt, entryAt, entriesOf, tableOf, clustersDown}
+use Rattle.kept.specs.Blank.{isEmpty}
+use Rattle.kept.specs.Fit.{keepsRules, fitEntry}
+use Rattle.kept.specs.Arrays.{Rising, Sized}
 use Rattle.table.specs.Searched.{Columns, rowOf, fieldsOf, Starts, Long, Sound}
 
 abbrev pub beneathOf : Columns → ℕ → List (Entry Result)
@@ -66,4 +67,4 @@ pub record Workable (t : Table) (c : ℕ) : Type 0 where
   pub rules : (i : ℕ) → i < t .rows → T (keepsRules narrow (rowAt t i))
   pub fit : (i : ℕ) → i < t .rows → (T (inside c (rowAt t i .cluster)) → ⊥) → T (fitEntry narrow (clustersOf t) (entryAt t i))
   pub words : (i : ℕ) → i < t .rows → getD (t .«members_low») i 0 < wordValues
-  pub blank : T (blankFrom t (t .rows) (rowCap - t .rows))
+  pub blank : (i : ℕ) → t .rows ≤ i → i < rowCap → T (isEmpty (entryAt t i))

@@ -35,7 +35,7 @@ use Rattle.kept.specs.declared.table.Table.{Table}
 use Rattle.kept.specs.View.{rowAt, entryAt, entriesOf}
 use Rattle.kept.specs.Fit.{isFit}
 use Rattle.kept.specs.Rows.{hasRow}
-use Rattle.kept.proofs.Laws.Column.{entries-length}
+use Rattle.laws.proofs.Down.{down-length}
 use Rattle.kept.proofs.Laws.View.{entries-table}
 use Rattle.table.specs.declared.rescoring.Rescored.{Rescored}
 use Rattle.table.specs.Rescore.{Changing, changingOf, isScore, rescoreRefusal, newTable, changedOf, rescoreTable}
@@ -62,7 +62,7 @@ WhyBy fit row score NoRoom = ⊥
 
 -- f is the refusal of the rescoring: 8 (fitness only), 9, 10 in that order, and no other
 abbrev pub WhyNot : Table → ℕ → ℤ → ℕ → Refusal → Type 0
-WhyNot t c z s f = WhyBy (isFit t) (hasRow t c) (isScore z s) f
+WhyNot t c z s f = WhyBy (isFit narrow t) (hasRow t c) (isScore z s) f
 
 tells : (fit row score : Bool) (f : Refusal) → WhyBy fit row score f → refusedBy fit row score ≡ some f
 tells false a b Unfit w = refl
@@ -88,8 +88,8 @@ module _ (t : Table) (c : ℕ) (z : ℤ) (s : ℕ) where
   unfolding rescoreTable
   rescore-of e = ap (changedOf t c z s) e
 
-  pub rescore-accepts-iff : (rescoreRefusal t c z s ≡ none) ↔ (T (isFit t) × T (hasRow t c) × T (isScore z s))
-  rescore-accepts-iff = (to (isFit t) (hasRow t c) (isScore z s), λ k. from (isFit t) (hasRow t c) (isScore z s) (k .0) (k .1) (k .2))
+  pub rescore-accepts-iff : (rescoreRefusal t c z s ≡ none) ↔ (T (isFit narrow t) × T (hasRow t c) × T (isScore z s))
+  rescore-accepts-iff = (to (isFit narrow t) (hasRow t c) (isScore z s), λ k. from (isFit narrow t) (hasRow t c) (isScore z s) (k .0) (k .1) (k .2))
     where
       to : (fit row score : Bool) → refusedBy fit row score ≡ none → T fit × T row × T score
       to true true true e = (tt, tt, tt)
@@ -101,7 +101,7 @@ module _ (t : Table) (c : ℕ) (z : ℤ) (s : ℕ) where
       from true true true x y w = refl
 
   pub rescore-refuses-iff : (f : Refusal) → (rescoreRefusal t c z s ≡ some f) ↔ WhyNot t c z s f
-  rescore-refuses-iff f = (told (isFit t) (hasRow t c) (isScore z s), tells (isFit t) (hasRow t c) (isScore z s) f)
+  rescore-refuses-iff f = (told (isFit narrow t) (hasRow t c) (isScore z s), tells (isFit narrow t) (hasRow t c) (isScore z s) f)
     where
       told : (fit row score : Bool) → refusedBy fit row score ≡ some f → WhyBy fit row score f
       told true true true e = absurd (none-some e)
@@ -166,7 +166,7 @@ module _ (t : Table) (c : ℕ) (z : ℤ) (s : ℕ) where
       sym (length-map changed cl)
       ∙ ap (λ (cs : List ℕ). length cs) (rescored-clusters narrow (t .degree) (map cl entries) c z s entries)
       ∙ length-map entries cl
-      ∙ entries-length t (t .rows)
+      ∙ down-length (entryAt t) (t .rows)
 
   entries-changed : entriesOf (newTable t c z s) (t .rows) ≡ changed
   entries-changed = ap (entriesOf (newTable t c z s)) (sym changed-length) ∙ entries-table (t .degree) changed

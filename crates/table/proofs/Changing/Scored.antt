@@ -20,17 +20,19 @@ use lib.Seq.{getD-set-same, getD-set-other}
 use Rattle.laws.specs.Cluster.{inside}
 use Rattle.laws.specs.Limits.{narrow, rowCap, wordValues}
 use Rattle.laws.proofs.Cluster.{inside-refl}
+use Rattle.laws.proofs.Width.{narrow-facts}
 use Rattle.trees.specs.Rows.{Entry}
 use Rattle.trees.specs.Result.{Result}
 use Rattle.trees.specs.Rescored.{putScore, workedOut, again}
 use Rattle.kept.specs.declared.table.Table.{Table}
 use Rattle.kept.specs.View.{rowAt, entryAt, entriesOf, tableOf}
-use Rattle.kept.specs.Fit.{keepsRules, fitEntry, isEmpty, isFit}
+use Rattle.kept.specs.Fit.{keepsRules, fitEntry, isFit}
 use Rattle.kept.specs.Rows.{placeOf, hasRow}
 use Rattle.kept.specs.Arrays.{Sized}
-use Rattle.kept.proofs.Laws.Fit.{FitTable, isFit→, →blankFrom, fit-rules}
-use Rattle.kept.proofs.Laws.Marks.{clusters-are}
-use Rattle.kept.proofs.Laws.Rows.{hasRow-is, placeOf-first}
+use Rattle.kept.specs.Blank.{isEmpty}
+use Rattle.kept.proofs.Laws.Fit.{FitTable, isFit→, fit-rules}
+use Rattle.kept.proofs.Laws.Clusters.{clusters-are}
+use Rattle.kept.proofs.Laws.Rows.{hasRow-is, placeOf-at}
 use Rattle.table.specs.Rescore.{isScore, newTable}
 use Rattle.table.specs.Working.{clustersOf, againTable, Workable}
 use Rattle.table.proofs.Fitting.FitTables.{put-rules}
@@ -46,7 +48,7 @@ module _ (t : Table) (capped : t .rows ≤ rowCap) (c i : ℕ) (e : i ≡ placeO
 
   pub row-found : i < t .rows → getD (t .clusters) i 0 ≡ c
   row-found h =
-      ap (λ (n : ℕ). getD (t .clusters) n 0) e ∙ placeOf-first t capped c .at (subst (λ (n : ℕ). n < t .rows) e h)
+      ap (λ (n : ℕ). getD (t .clusters) n 0) e ∙ placeOf-at t capped c (subst (λ (n : ℕ). n < t .rows) e h)
 
 -- ---- its score
 
@@ -87,13 +89,13 @@ module _ (t : Table) (i : ℕ) (z : ℤ) (s : ℕ) where
     val = entryAt t j .val;
   }
 
-module _ (t : Table) (c : ℕ) (z : ℤ) (s : ℕ) (sized : Sized t) (fit : T (isFit t)) (i : ℕ) (place : i < t .rows)
+module _ (t : Table) (c : ℕ) (z : ℤ) (s : ℕ) (sized : Sized t) (fit : T (isFit narrow t)) (i : ℕ) (place : i < t .rows)
     (found : getD (t .clusters) i 0 ≡ c) where
   abbrev new : Table
   new = withScore t i z s
 
-  facts : FitTable t
-  facts = isFit→ t fit
+  facts : FitTable narrow t
+  facts = isFit→ narrow narrow-facts t fit
 
   abbrev putE : Entry Result → Entry Result
   putE e = record { row = putScore c z s (e .row); val = e .val }
@@ -178,7 +180,6 @@ module _ (t : Table) (c : ℕ) (z : ℤ) (s : ℕ) (sized : Sized t) (fit : T (i
     rules = score-rules k;
     fit = score-fit;
     words = words;
-    blank = →blankFrom new (t .rows) (rowCap - t .rows) (λ j l m.
-        subst (λ (e : Entry Result). T (isEmpty e)) (sym (score-other t i z s j (λ e. omega arith)))
-        (facts .blank j l (omega (arith, facts .capped))));
+    blank = λ j l m.
+        subst (λ (e : Entry Result). T (isEmpty e)) (sym (score-other t i z s j (λ e. omega arith))) (facts .blank j l m);
   }

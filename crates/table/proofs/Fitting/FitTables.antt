@@ -36,9 +36,10 @@ use Rattle.table.specs.Arranged.{unworked}
 use Rattle.table.specs.Rescore.{isScore, newTable}
 use Rattle.table.proofs.Fitting.AgainFit.{Listed, again-fit}
 pub use Rattle.table.proofs.Laws.Build.{Accepted}
-use Rattle.kept.proofs.Laws.Column.{entries-length, mem-entries}
+use Rattle.laws.proofs.Down.{down-length, down-mem}
 use Rattle.kept.proofs.Laws.Fit.{recordIn, rules→, →rules, fit-rules, isFit→, →isFit, fit-falls, fit-each, entries-rising}
-use Rattle.kept.proofs.Laws.View.{entries-table, table-past, blank→empty}
+use Rattle.kept.proofs.Laws.Blank.{blank→empty}
+use Rattle.kept.proofs.Laws.View.{entries-table, table-past}
 use Rattle.table.proofs.Laws.Build.{unworked-clusters, again-built}
 
 -- ---- rows that may be made a table of
@@ -74,15 +75,15 @@ carried d es xs P Q same k f = record {
 
 -- ---- the table of fit rows
 
-pub table-fit : (d : ℕ) (es : List (Entry Result)) → FitRows d es → T (isFit (tableOf d es))
-table-fit d es f = →isFit t (record {
+pub table-fit : (d : ℕ) (es : List (Entry Result)) → FitRows d es → T (isFit narrow (tableOf d es))
+table-fit d es f = →isFit narrow t (record {
   low = f .low;
   high = f .high;
   some = f .some;
   capped = f .capped;
   rising = entries-rising t (rw (entries-table d es) (f .falls));
   fit = λ i l. rw (entries-table d es)
-      (f .each (entryAt t i) (subst (Mem (entryAt t i)) (entries-table d es) (mem-entries t (length es) i l)));
+      (f .each (entryAt t i) (subst (Mem (entryAt t i)) (entries-table d es) (down-mem (entryAt t) (length es) i l)));
   blank = λ i l m. blank→empty t i (table-past d es i l);
 })
   where
@@ -112,7 +113,7 @@ module _ (d c : ℕ) (es : List (Entry Result)) (k : Rows d es) where
           (narrow-facts .tuples d (length es - 1) (k .high) (omega (arith, k .some, k .capped))) f
 
   pub again-table-fit : ((e : Entry Result) → Mem e es → (T (inside c (cl e)) → ⊥) → T (fitEntry narrow (map cl es) e))
-      → T (isFit (tableOf d (again F c es)))
+      → T (isFit narrow (tableOf d (again F c es)))
   again-table-fit f = table-fit d (again F c es) (again-rows f)
 
 -- ---- rescored
@@ -161,25 +162,25 @@ module _ (c : ℕ) (z : ℤ) (s : ℕ) (score : T (isScore z s)) where
         subst (λ (cs : List ℕ). T (fitEntry narrow cs x)) (sym (put-clusters es))
         (subst (λ (e : Entry Result). T (fitEntry narrow (map cl es) e)) same (k .each (q .0) (q .1)))
 
-    put-table-fit : T (isFit (tableOf d (rescored narrow d (map cl es) c z s es)))
+    put-table-fit : T (isFit narrow (tableOf d (rescored narrow d (map cl es) c z s es)))
     put-table-fit =
-        subst (λ (cs : List ℕ). T (isFit (tableOf d (again (workedOut narrow d cs) c (map withScore es))))) (put-clusters es)
+        subst (λ (cs : List ℕ). T (isFit narrow (tableOf d (again (workedOut narrow d cs) c (map withScore es))))) (put-clusters es)
         (again-table-fit d c (map withScore es) put-rows put-fit)
 
-pub fit-rows : (t : Table) → T (isFit t) → FitRows (t .degree) (entriesOf t (t .rows))
+pub fit-rows : (t : Table) → T (isFit narrow t) → FitRows (t .degree) (entriesOf t (t .rows))
 fit-rows t h =
-    let f = isFit→ t h in
-    let n = entries-length t (t .rows) in
+    let f = isFit→ narrow narrow-facts t h in
+    let n = down-length (entryAt t) (t .rows) in
     record {
       low = f .low;
       high = f .high;
       some = omega (arith, n, f .some);
       capped = omega (arith, n, f .capped);
-      falls = fit-falls t f;
-      each = fit-each t f;
+      falls = fit-falls narrow t f;
+      each = fit-each narrow t f;
     }
 
-pub rescored-fit : (t : Table) (c : ℕ) (z : ℤ) (s : ℕ) → T (isFit t) → T (isScore z s) → T (isFit (newTable t c z s))
+pub rescored-fit : (t : Table) (c : ℕ) (z : ℤ) (s : ℕ) → T (isFit narrow t) → T (isScore z s) → T (isFit narrow (newTable t c z s))
 rescored-fit t c z s h score = put-table-fit c z s score (t .degree) (entriesOf t (t .rows)) (fit-rows t h)
 
 -- ---- built
@@ -196,7 +197,7 @@ module _ (d : ℕ) (rs : List Row) (k : Accepted d rs) where
         subst (λ (x : Entry Result). T (keepsRules narrow (x .row))) (q .2) (k .rules (q .0) (q .1));
   }
 
-  pub built-fit : T (isFit (tableOf d (builtTable narrow d rs)))
+  pub built-fit : T (isFit narrow (tableOf d (builtTable narrow d rs)))
   built-fit =
-      subst (λ (es : List (Entry Result)). T (isFit (tableOf d es))) (again-built d rs (k .facts))
+      subst (λ (es : List (Entry Result)). T (isFit narrow (tableOf d es))) (again-built d rs (k .facts))
       (again-table-fit d 0 (map unworked rs) accepted-rows (λ e m n. absurd (n (zero-inside (cl e)))))

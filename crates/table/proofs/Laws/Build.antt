@@ -38,13 +38,14 @@ use Rattle.trees.specs.Rescored.{workedOut, againIf, again}
 use Rattle.trees.specs.Kind.{workedFrom}
 use Rattle.trees.proofs.Built.{worked-is-built}
 use Rattle.kept.specs.declared.table.Table.{Table}
-use Rattle.kept.specs.View.{rowAt, entryAt, tableOf}
+use Rattle.kept.specs.View.{rowAt, entryAt, tableOf, clustersDown}
 use Rattle.kept.specs.Fit.{keepsRules}
-use Rattle.kept.specs.Arrays.{clustersDown, Rising}
-use Rattle.kept.proofs.Laws.Column.{mem-entries}
-use Rattle.kept.proofs.Laws.Marks.{clusters-are, falling-ascends}
+use Rattle.kept.specs.Arrays.{Rising}
+use Rattle.kept.proofs.Laws.Clusters.{clusters-are}
+use Rattle.laws.proofs.Down.{falling-down, down-mem}
 use Rattle.kept.proofs.Laws.Through.{through-ext}
-use Rattle.kept.proofs.Laws.View.{entries-table, table-sized, table-blank}
+use Rattle.kept.proofs.Laws.Blank.{blank→empty}
+use Rattle.kept.proofs.Laws.View.{entries-table, table-sized, table-past}
 use Rattle.table.specs.declared.listing.Listed.{Listed}
 use Rattle.table.specs.declared.listing.Order.{Order}
 use Rattle.table.specs.declared.making.Built.{Built}
@@ -123,12 +124,12 @@ module _ (d : ℕ) (rs : List Row) (k : Accepted d rs) where
   rising : Rising (table .clusters) (length es)
   rising = record {
     long = omega (arith, table-sized d es (omega (arith, count, k .capped)) .clusters, count, k .capped);
-    up = falling-ascends (table .clusters) (length es) (rw (same-clusters, unworked-clusters rs) (k .facts .falls));
+    up = falling-down _ (length es) (rw (same-clusters, unworked-clusters rs) (k .facts .falls));
   }
 
   -- a row of the table is one of the rows, with no results
   at-row : (i : ℕ) → i < length es → (r : Row) × Mem r rs × (unworked r ≡ entryAt table i)
-  at-row i h = Memᴰ·of-map unworked rs (subst (Mem (entryAt table i)) (entries-table d es) (mem-entries table (length es) i h))
+  at-row i h = Memᴰ·of-map unworked rs (subst (Mem (entryAt table i)) (entries-table d es) (down-mem (entryAt table) (length es) i h))
 
   pub workable : Workable table 0
   workable = record {
@@ -141,7 +142,7 @@ module _ (d : ℕ) (rs : List Row) (k : Accepted d rs) where
     rules = λ i h. let q = at-row i h in subst (λ (e : Entry Result). T (keepsRules narrow (e .row))) (q .2) (k .rules (q .0) (q .1));
     fit = λ i h out. absurd (out (zero-inside (rowAt table i .cluster)));
     words = λ i h. omega (arith, ap (λ (e : Entry Result). e .val .members) (at-row i h .2));
-    blank = table-blank d es (rowCap - length es);
+    blank = λ i l m. blank→empty table i (table-past d es i l);
   }
 
 -- ---- the records read and in order

@@ -30,14 +30,15 @@ use Rattle.trees.specs.Result.{Result}
 use Rattle.trees.specs.Rescored.{ownMark, workedOut, againIf, again}
 use Rattle.laws.proofs.Width.{narrow-facts}
 use Rattle.kept.specs.declared.table.Table.{Table}
-use Rattle.kept.specs.View.{rowAt, entryAt, entriesOf, tableOf}
-use Rattle.kept.specs.Fit.{isEmpty, keepsRules, fitEntry}
-use Rattle.kept.specs.Arrays.{clustersDown, Rising, Sized}
-use Rattle.kept.proofs.Laws.Column.{entries-length, entries-mem, mem-entries}
+use Rattle.kept.specs.View.{rowAt, entryAt, entriesOf, tableOf, clustersDown}
+use Rattle.kept.specs.Fit.{keepsRules, fitEntry}
+use Rattle.kept.specs.Arrays.{Rising, Sized}
+use Rattle.kept.specs.Blank.{isEmpty}
 use Rattle.kept.proofs.Laws.Fit.{recordIn, rules→, cluster-pos}
-use Rattle.kept.proofs.Laws.Marks.{Ascends, clusters-are, length-clustersDown, mem-clustersDown, clustersDown-mem}
-use Rattle.kept.proofs.Laws.Marks.{falling-clustersDown, mark-down}
-use Rattle.kept.proofs.Laws.View.{Blank, empty→blank, blank→empty, blank-past, table-is}
+use Rattle.kept.proofs.Laws.Clusters.{Ascends, clusters-are, mark-down}
+use Rattle.laws.proofs.Down.{down-length, down-mem, mem-down, down-falling}
+use Rattle.kept.proofs.Laws.Blank.{Blank, empty→blank, blank→empty, blank-past}
+use Rattle.kept.proofs.Laws.View.{table-is}
 use Rattle.table.specs.declared.tally.Tally.{Tally}
 use Rattle.table.specs.Searched.{columnsOf, rowOf, fieldsOf, Starts, GoodRow, Sound}
 use Rattle.table.specs.Tally.{fieldsTally}
@@ -129,26 +130,26 @@ module _ (given : Table) (c : ℕ) (w : Workable given c) where
 
   given-full : (x : ℕ) → Mem x cs → x ≢ 0
   given-full x m e =
-      let q = clustersDown-mem (given .clusters) (given .rows) x m in
+      let q = mem-down _ (given .rows) x m in
       rules→ narrow (rowAt given (q .0)) (w .rules (q .0) (q .1)) .1 .has-taxon (sym (q .2) ∙ e)
 
   given-falls : (i : ℕ) → i ≤ given .rows → Falling (clustersDown (given .clusters) i)
-  given-falls i h = falling-clustersDown (given .clusters) i (λ a b p q. w .rising .up a b p (omega arith))
+  given-falls i h = down-falling _ i (λ a b p q. w .rising .up a b p (omega arith))
 
   given-listed : (i : ℕ) → i ≤ given .rows → Listed narrow cs (entriesOf given i)
   given-listed i h = record {
     falls = subst Falling (sym (clusters-are given i)) (given-falls i h);
-    listed = λ e m. let q = entries-mem given i e m in
+    listed = λ e m. let q = mem-down (entryAt given) i e m in
         subst (λ (x : Entry Result). Mem (cl x) cs) (sym (q .2))
-        (mem-clustersDown (given .clusters) (given .rows) (q .0) (omega (arith, q .1)));
-    rules = λ e m. let q = entries-mem given i e m in
+        (down-mem _ (given .rows) (q .0) (omega (arith, q .1)));
+    rules = λ e m. let q = mem-down (entryAt given) i e m in
         subst (λ (x : Entry Result). T (keepsRules narrow (x .row))) (sym (q .2)) (w .rules (q .0) (omega (arith, q .1)));
   }
 
   given-others : (i : ℕ) → i ≤ given .rows → (e : Entry Result) → Mem e (entriesOf given i)
       → (T (inside c (cl e)) → ⊥) → T (fitEntry narrow cs e)
   given-others i h e m n =
-      let q = entries-mem given i e m in
+      let q = mem-down (entryAt given) i e m in
       subst (λ (x : Entry Result). T (fitEntry narrow cs x)) (sym (q .2))
       (w .fit (q .0) (omega (arith, q .1)) (λ t. n (subst (λ (x : Entry Result). T (inside c (cl x))) (sym (q .2)) t)))
 
@@ -158,9 +159,9 @@ module _ (given : Table) (c : ℕ) (w : Workable given c) where
     done-fit j h =
         again-fit narrow (lit≤ tt) d c cs (given-falls (given .rows) (omega arith)) given-full
         (entriesOf given i) (given-listed i (p .within))
-        (subst (λ (n : ℕ). few (n - 1) (d - 1) ≤ narrow .lengthMax) (sym (entries-length given i))
+        (subst (λ (n : ℕ). few (n - 1) (d - 1) ≤ narrow .lengthMax) (sym (down-length (entryAt given) i))
         (narrow-facts .tuples d (i - 1) (w .high) (omega (arith, p .within, w .capped, w .some))))
-        (given-others i (p .within)) (entryAt t j) (subst (Mem (entryAt t j)) (p .done) (mem-entries t i j h))
+        (given-others i (p .within)) (entryAt t j) (subst (Mem (entryAt t j)) (p .done) (down-mem (entryAt t) i j h))
 
     -- what is known of the given clusters is known of those of t
     clusters-same : (P : List ℕ → Type 0) → P (given .clusters) → P (t .clusters)
@@ -170,7 +171,7 @@ module _ (given : Table) (c : ℕ) (w : Workable given c) where
     ready-sound h = record {
       one = lit≤ tt;
       small = lit< tt;
-      short = omega (arith, length-clustersDown (t .clusters) (given .rows), w .capped);
+      short = omega (arith, down-length (λ (a : ℕ). getD (t .clusters) a 0) (given .rows), w .capped);
       falls = clusters-same (λ (l : List ℕ). Falling (clustersDown l (given .rows))) (given-falls (given .rows) (omega arith));
       full = clusters-same (λ (l : List ℕ). (x : ℕ) → Mem x (clustersDown l (given .rows)) → x ≢ 0) given-full;
       rising = record {
@@ -284,7 +285,7 @@ module _ (given : Table) (c : ℕ) (w : Workable given c) where
 
     past-blank : (j : ℕ) → given .rows ≤ j → i ≤ j → Blank t j
     past-blank j h l =
-        let b = blank-past given (w .sized) (w .capped) (w .blank) j h in
+        let b = blank-past given (w .sized) (w .blank) j h in
         empty→blank t j (subst (λ (e : Entry Result). T (isEmpty e)) (sym (p .left j l)) (blank→empty given j b))
 
     pub partly-end : given .rows ≤ i → t ≡ againTable given c

@@ -41,8 +41,10 @@ use Rattle.trees.proofs.Searching.Covers.{tuples-are-covers}
 use Rattle.trees.proofs.Sets.Families.{one, Disj}
 use Rattle.trees.proofs.Formula.Kind.{tuples-map, hom-sum, hom-second}
 use Rattle.trees.proofs.Counting.Worked.{markIn, lengthIf, trueResult}
-use Rattle.kept.specs.Arrays.{clustersDown}
-use Rattle.kept.proofs.Laws.Marks.{mem-clustersDown, mark-down, highest-lt}
+use Rattle.kept.specs.View.{clustersDown}
+use Rattle.kept.proofs.Laws.Clusters.{mark-down}
+use Rattle.laws.proofs.Down.{down-mem}
+use Rattle.kept.proofs.Laws.Marks.{highest-lt}
 use Rattle.table.specs.declared.tally.Tally.{Tally}
 use Rattle.table.specs.Searched.{Columns, rowOf, fieldsOf, GoodRow, Searchable}
 use Rattle.table.specs.Searched.{sumKind, sumCovers, partsOf}
@@ -126,7 +128,7 @@ module _ (k : Columns) (starts : List ℕ) (z : ℤ) (i d : ℕ) (R : Ready k st
   ready-over = record {
     falls = R .sound .falls;
     full = R .sound .full;
-    listed = mem-clustersDown (k .clusters) (R .rows) i (R .place);
+    listed = down-mem _ (R .rows) i (R .place);
     light = R .light;
     nonzero = λ e m. let q = beneath-mem k i e m in λ n. omega (arith, ap cl (q .2), n, R .sound .nonzero (q .0) (q .1));
     less = λ e m. let q = beneath-mem k i e m in omega (arith, ap cl (q .2), R .rising .up (q .0) i (q .1) (R .place));

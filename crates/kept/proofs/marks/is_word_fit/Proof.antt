@@ -1,0 +1,117 @@
+-- `kept::marks::is_word_fit` meets its contract. The invariant: each set bit of the word passes where each of the rest does, and the rest
+-- is no larger. The measure is the rest. Assumes nothing.
+use borrow.Author.Needs.{needs}
+use borrow.Author.Tests.{lt-ltb, le-ltb}
+use mathlib.Core.Path.{_≡_, refl, sym, _∙_}
+use mathlib.Core.Bool.{true, false}
+use Prim.Native.Nat.{_^_, _≤_, _<_}
+use native.Mathlib.Omega.{arith}
+use denote.Ref.{now}
+use lib.Pow.{pow-pos}
+use Rattle.laws.proofs.Taxa.{highest-le}
+use Rattle.laws.proofs.Tests.{passed, failed}
+use Rattle.kept.specs.Fields.{everyBit, isMarkFit}
+use Rattle.kept.proofs.Laws.Marks.{Marked, mark-highest, mark-lt, shifted}
+use Rattle.kept.proofs.Laws.Words.{everyBit-none, everyBit-fails, everyBit-drop}
+use Rattle.kept.proofs.marks.is_word_fit.Statement.{statement}
+use Rattle.kept.proofs.marks.is_word_fit.Tie as tie
+
+abbrev Inv-loop : tie.InvT-loop
+Inv-loop clusters n base word cluster rest₀ rest =
+    (rest ≤ word)
+    × (everyBit word 64 (isMarkFit clusters n cluster base) ≡ everyBit rest 64 (isMarkFit clusters n cluster base))
+
+abbrev μ-loop : tie.MeasureT-loop
+μ-loop clusters n base word cluster rest₀ rest = rest
+
+loop-holds : tie.Need-loop-holds Inv-loop μ-loop
+loop-holds c = (omega arith, refl)
+
+-- ---- the highest set bit
+bit-set : (c : tie.After-highest Inv-loop μ-loop) → Marked (c .before .before .loop .rest) (c .highest .result)
+bit-set c = rw (c .highest .ensures) (mark-highest (c .before .before .loop .rest) (omega arith))
+
+bit-lt : (c : tie.After-highest Inv-loop μ-loop) → c .highest .result < 64
+bit-lt c = mark-lt 64 (c .before .before .loop .rest) (c .highest .result) (omega arith) (bit-set c)
+
+bit-le : (c : tie.After-highest Inv-loop μ-loop) → 2 ^ c .highest .result ≤ c .before .before .loop .rest
+bit-le c = rw (c .highest .ensures) (highest-le (c .before .before .loop .rest) (omega arith))
+
+cast-j : tie.Need-cast-j Inv-loop μ-loop
+cast-j c = record { fits = omega (arith, bit-lt c) }
+
+add-j : tie.Need-add-j Inv-loop μ-loop
+add-j c = record { fits = omega (arith, bit-lt c) }
+
+returns : tie.Need-returns Inv-loop μ-loop
+returns c =
+    let at-bit = c .before in
+    let at-loop = at-bit .before .before in
+    let a = at-loop .before .before .args in
+    let p = isMarkFit (now (a .clusters)) (a .n) (a .cluster) (a .base) in
+    let past : p (at-bit .highest .result) ≡ false = rw (le-ltb _ _ (c .if1 .taken)) in
+    sym (at-loop .loop .inv .1 ∙ everyBit-fails 64 p (at-loop .loop .rest) (at-bit .highest .result) (bit-lt at-bit) (bit-set at-bit) past)
+
+returns-2 : tie.Need-returns-2 Inv-loop μ-loop
+returns-2 c =
+    let at-bit = c .before .before .before .before in
+    let at-loop = at-bit .before .before in
+    let a = at-loop .before .before .args in
+    let p = isMarkFit (now (a .clusters)) (a .n) (a .cluster) (a .base) in
+    let outside = failed (c .before .is-inside .ensures) (c .if2 .taken) in
+    let fails : p (at-bit .highest .result) ≡ false = rw (lt-ltb _ _ (c .before .before .before .if1 .left), outside) in
+    sym (at-loop .loop .inv .1 ∙ everyBit-fails 64 p (at-loop .loop .rest) (at-bit .highest .result) (bit-lt at-bit) (bit-set at-bit) fails)
+
+cast-rest : tie.Need-cast-rest Inv-loop μ-loop
+cast-rest c = record { fits = omega (arith, bit-lt (c .before .before .before .before)) }
+
+shl-rest : tie.Need-shl-rest Inv-loop μ-loop
+shl-rest c = bit-lt (c .before .before .before .before)
+
+sub-rest : tie.Need-sub-rest Inv-loop μ-loop
+sub-rest c = let at-bit = c .before .before .before .before in rw (shifted _ (bit-lt at-bit)) (bit-le at-bit)
+
+loop-less : tie.Need-loop-less Inv-loop μ-loop
+loop-less c =
+    let at-bit = c .before .before .before .before in
+    rw (shifted _ (bit-lt at-bit)) (omega (arith, bit-le at-bit, pow-pos (at-bit .highest .result)))
+
+loop-again : tie.Need-loop-again Inv-loop μ-loop
+loop-again c =
+    let at-bit = c .before .before .before .before in
+    let at-loop = at-bit .before .before in
+    let a = at-loop .before .before .args in
+    let p = isMarkFit (now (a .clusters)) (a .n) (a .cluster) (a .base) in
+    let within = passed (c .before .is-inside .ensures) (c .if2 .left) in
+    let passes : p (at-bit .highest .result) ≡ true = rw (lt-ltb _ _ (c .before .before .before .if1 .left), within) in
+    rw (shifted _ (bit-lt at-bit))
+    (omega arith, at-loop .loop .inv .1 ∙ everyBit-drop 64 p (at-loop .loop .rest) (at-bit .highest .result) (bit-set at-bit) passes)
+
+returns-3 : tie.Need-returns-3 Inv-loop μ-loop
+returns-3 c =
+    let at-loop = c .before in
+    let a = at-loop .before .before .args in
+    let p = isMarkFit (now (a .clusters)) (a .n) (a .cluster) (a .base) in
+    sym (at-loop .loop .inv .1 ∙ rw (c .loop-test .left) (everyBit-none 64 p))
+
+pub is-word-fit-spec : {M : Type 1} → statement M
+is-word-fit-spec =
+    tie.close
+    (tie.spec
+    Inv-loop
+    μ-loop
+    loop-holds
+    (λ c κs. search needs)
+    cast-j
+    add-j
+    returns
+    (λ c. omega arith)
+    (λ c. omega arith)
+    (λ c κs. search needs)
+    returns-2
+    cast-rest
+    shl-rest
+    sub-rest
+    loop-less
+    loop-again
+    returns-3)
