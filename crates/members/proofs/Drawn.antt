@@ -12,9 +12,10 @@ use mathlib.Core.Option.{Option, none, some, Option·some-ne-none}
 use mathlib.Core.List.{[], _∷_, reverse}
 use mathlib.Core.List.{List·Memᴰ as Mem}
 use Prim.Native.Nat.{ℕ, _^_, _<_}
+use native.Mathlib.Nat.{le-trans}
 use native.Mathlib.Omega.{arith}
 use lib.Dec.{T}
-use Rattle.laws.specs.Limits.{Width, narrow}
+use Rattle.laws.specs.Limits.{Width, WidthFacts}
 use Rattle.laws.specs.Lists.{Once, Falling}
 use Rattle.laws.specs.Row.{isScored}
 use Rattle.laws.proofs.Tests.{T-and, T-true}
@@ -28,6 +29,8 @@ use Rattle.kept.specs.declared.table.Table.{Table}
 use Rattle.kept.specs.View.{rowAt, resultAt}
 use Rattle.kept.specs.Fit.{isFit}
 use Rattle.kept.specs.Rows.{shownRows, leafSet}
+use Rattle.kept.proofs.Laws.Fit.{isFit→}
+use Rattle.kept.proofs.Laws.Rows.{placeOf-at}
 use Rattle.members.specs.declared.draw.Drawn.{Drawn}
 use Rattle.members.specs.Marked.{weightTo}
 use Rattle.members.specs.Outcome.{Outcome, outcomeOf, ended}
@@ -55,8 +58,9 @@ module _ {A : Type 0} where
 -- ---- a table of which something is drawn
 
 pub record Drawable (W : Width) (t : Table) : Type 0 where
-  pub fit : isFit t ≡ true
+  pub fit : isFit W t ≡ true
   pub row : leafRow t < t .rows
+  pub top : rowAt t (leafRow t) .cluster ≡ leafSet t
   pub counted : resultAt t (leafRow t) .count ≢ 0
   pub tree : isTree (W .taxa) (t .degree) (leafSet t) (membersOf t) ≡ true
   pub weighs : weightTo (t .weights) (leafMarks t) (shownRows t) ≡ resultAt t (leafRow t) .best
@@ -64,9 +68,9 @@ pub record Drawable (W : Width) (t : Table) : Type 0 where
   pub listed : (c : ℕ) → Mem c (membersOf t) → (i : ℕ) × (i < t .rows) × (c ≡ rowAt t i .cluster) × T (isScored (rowAt t i))
   pub falls : Falling (reverse (membersOf t))
   pub once : Once (membersOf t)
-  pub sound : (c : ℕ) → Mem c (membersOf t) → (c ≢ 0) × (c < 2 ^ narrow .taxa)
+  pub sound : (c : ℕ) → Mem c (membersOf t) → (c ≢ 0) × (c < 2 ^ W .taxa)
 
-module _ (W : Width) (t : Table) where
+module _ (W : Width) (facts : WidthFacts W) (t : Table) where
   -- no reason applies where all tests pass
   passed : (a b c : Bool) → firstReason (when (not a) Unfit ∷ when (not b) NoTree ∷ when (not c) Unfit ∷ []) ≡ none → T a × T b × T c
   passed true true true e = (tt, tt, tt)
@@ -76,20 +80,21 @@ module _ (W : Width) (t : Table) where
 
   pub drawable : firstReason (drawReasons W t) ≡ none → Drawable W t
   drawable e =
-      let q = passed (isFit t) (hasTree t) (isDrawable W t) e in
-      let fit = T-true (isFit t) (q .0) in
+      let q = passed (isFit W t) (hasTree t) (isDrawable W t) e in
+      let fit = T-true (isFit W t) (q .0) in
       let tree = hasTree→ t (q .1) in
       let r = T-and (areScored t && weighsBest t) _ (q .2) in
       let s = T-and (areScored t) (weighsBest t) (r .0) in record {
         fit = fit;
         row = tree .0;
+        top = placeOf-at t (le-trans (isFit→ W facts t (q .0) .capped) (facts .rows)) (leafSet t) (tree .0);
         counted = tree .1;
         tree = T-true _ (r .1);
         weighs = isSame→ _ _ (s .1);
-        listed = members-listed t fit (s .0);
-        falls = members-falling t fit;
-        once = members-once t fit;
-        sound = members-sound t fit;
+        listed = members-listed W facts t fit (s .0);
+        falls = members-falling W facts t fit;
+        once = members-once W facts t fit;
+        sound = members-sound W facts t fit;
       }
 
 -- ---- what `drawn_tree` hands back
@@ -116,11 +121,11 @@ module _ (W : Width) (t : Table) where
       → firstReason (drawReasons W t) ≡ some f
   drawn-refused p h = ended-refused (firstReason (drawReasons W t)) noMembers 0 (drawnMembers t) (drawn-is p) h
 
-  pub drawn-done : {r : Drawn} {n : ℕ} → drawnOf r ≡ drawnTree W t → r .answer ≡ Done n → Success W t r
-  drawn-done p h =
+  pub drawn-done : WidthFacts W → {r : Drawn} {n : ℕ} → drawnOf r ≡ drawnTree W t → r .answer ≡ Done n → Success W t r
+  drawn-done facts p h =
       let q = ended-done (firstReason (drawReasons W t)) noMembers 0 (drawnMembers t) (drawn-is p) h in record {
         none = q .0;
-        table = drawable W t (q .0);
+        table = drawable W facts t (q .0);
         row = ap (λ (m : DrawnMembers). m .row) (q .1);
         members = record { size = ap (λ (m : DrawnMembers). m .size) (q .1); clusters = ap (λ (m : DrawnMembers). m .clusters) (q .1) };
       }

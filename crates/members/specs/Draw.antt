@@ -60,7 +60,7 @@ abbrev pub isDrawable : Width → Table → Bool
 isDrawable W t = areScored t && weighsBest t && isTree (W .taxa) (t .degree) (leafSet t) (membersOf t)
 
 abbrev pub drawReasons : Width → Table → List Reason
-drawReasons W t = when (not (isFit t)) Unfit ∷ when (not (hasTree t)) NoTree ∷ when (not (isDrawable W t)) Unfit ∷ []
+drawReasons W t = when (not (isFit W t)) Unfit ∷ when (not (hasTree t)) NoTree ∷ when (not (isDrawable W t)) Unfit ∷ []
 
 -- ---- what is drawn
 pub record DrawnMembers : Type 0 where

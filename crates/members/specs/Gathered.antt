@@ -18,7 +18,7 @@ pub record Holds (s : List ℕ) (n : ℕ) (xs : List ℕ) : Type 0 where
   pub clusters : s ≡ padded xs
 
 pub record Found (W : Width) (t : Table) (c i : ℕ) : Type 0 where
-  pub fit : isFit t ≡ true
+  pub fit : isFit W t ≡ true
   pub capped : t .rows ≤ rowCap
   pub place : i < t .rows
   pub top : c ≡ leafSet t

@@ -11,12 +11,12 @@ use mathlib.Core.List.{List, [], _∷_, map, reverse}
 use Prim.Native.Nat.{ℕ}
 use lib.IntN.{ℤ, pos, _+ℤ_}
 use lib.ListN.{getD}
-use Rattle.laws.specs.Lists.{keep, every, downTo}
+use Rattle.laws.specs.Lists.{keep, every, places}
 use Rattle.laws.specs.State.{scored}
-use Rattle.kept.specs.Fit.{hasMark}
+use Rattle.kept.specs.Marks.{hasMark}
 
 abbrev pub markedTo : ℕ → ℕ → List ℕ
-markedTo m n = keep (hasMark m) (downTo (λ (i : ℕ). i) n)
+markedTo m n = keep (hasMark m) (places n)
 
 abbrev pub membersTo : List ℕ → ℕ → ℕ → List ℕ
 membersTo cs m n = reverse (map (λ (i : ℕ). getD cs i 0) (markedTo m n))

@@ -12,7 +12,7 @@ use cluster::Refusal;
 use kept::Table;
 use kept::is_fit;
 use kept::leaf_set;
-use kept::row_of;
+use kept::place_of;
 ghost use mathlib.Core.Path.{_≡_};
 ghost use Rattle.laws.specs.Limits.{narrow};
 ghost use Rattle.members.specs.Outcome.{outcomeOf};
@@ -76,7 +76,7 @@ pub fn drawn_tree(t: Table) -> Drawn
         return not_drawn(Refusal::Unfit);
     }
     let top = leaf_set(t);
-    let row = row_of(t, top);
+    let row = place_of(t, top);
     if t.rows <= row {
         return not_drawn(Refusal::NoTree);
     }

@@ -66,19 +66,19 @@ module _ (W : Width) (t : Table) where
   unfolding drawnTree
   drawn-by e = ap (λ (f : Option Refusal). ended f noMembers 0 (drawnMembers t)) e
 
-  pub drawn-unfit : isFit t ≡ false → drawnTree W t ≡ outcomeOf (Refused Unfit) noMembers
+  pub drawn-unfit : isFit W t ≡ false → drawnTree W t ≡ outcomeOf (Refused Unfit) noMembers
   drawn-unfit e = drawn-by {f = some Unfit} (rw e)
 
-  pub drawn-no-tree : isFit t ≡ true → hasTree t ≡ false → drawnTree W t ≡ outcomeOf (Refused NoTree) noMembers
+  pub drawn-no-tree : isFit W t ≡ true → hasTree t ≡ false → drawnTree W t ≡ outcomeOf (Refused NoTree) noMembers
   drawn-no-tree e f = drawn-by {f = some NoTree} (rw (e, f))
 
-  pub drawn-marks : isFit t ≡ true → hasTree t ≡ true → isDrawable W t ≡ false → drawnTree W t ≡ outcomeOf (Refused Unfit) noMembers
+  pub drawn-marks : isFit W t ≡ true → hasTree t ≡ true → isDrawable W t ≡ false → drawnTree W t ≡ outcomeOf (Refused Unfit) noMembers
   drawn-marks e f g = drawn-by {f = some Unfit} (rw (e, f, g))
 
-  pub nothing-refused : isFit t ≡ true → hasTree t ≡ true → isDrawable W t ≡ true → firstReason (drawReasons W t) ≡ none
+  pub nothing-refused : isFit W t ≡ true → hasTree t ≡ true → isDrawable W t ≡ true → firstReason (drawReasons W t) ≡ none
   nothing-refused e f g = rw (e, f, g)
 
-  pub drawn-whole : isFit t ≡ true → hasTree t ≡ true → isDrawable W t ≡ true → drawnTree W t ≡ outcomeOf (Done 0) (drawnMembers t)
+  pub drawn-whole : isFit W t ≡ true → hasTree t ≡ true → isDrawable W t ≡ true → drawnTree W t ≡ outcomeOf (Done 0) (drawnMembers t)
   drawn-whole e f g = drawn-by (nothing-refused e f g)
 
 -- ---- weights that are the same

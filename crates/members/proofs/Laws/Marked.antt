@@ -18,13 +18,13 @@ use borrow.Author.Tests.{eq-eqb, ne-eqb}
 use lib.Dec.{T}
 use lib.ListN.{length, getD, length-map, length-reverse}
 use Rattle.laws.specs.Limits.{wordValues}
-use Rattle.laws.specs.Lists.{every, Falling, downTo}
+use Rattle.laws.specs.Lists.{every, Falling, places}
 use Rattle.laws.specs.State.{scored}
 use Rattle.laws.proofs.Appended.{mem-of-reverse}
 use Rattle.laws.proofs.Down.{down-length, mem-down, down-falling}
 use Rattle.laws.proofs.Falling.{in-turn-keep}
 use Rattle.laws.proofs.Keep.{mem-of-keep, length-keep-le}
-use Rattle.kept.specs.Fit.{hasMark}
+use Rattle.kept.specs.Marks.{hasMark}
 use Rattle.kept.proofs.Laws.Marks.{mark-high}
 use Rattle.members.specs.Marked.{markedTo, membersTo, scoredTo}
 
@@ -44,13 +44,13 @@ module _ (m : ℕ) where
 
   pub mem-marked : (n i : ℕ) → Mem i (markedTo m n) → (i < n) × T (hasMark m i)
   mem-marked n i k =
-      let q = mem-of-keep (hasMark m) (downTo (λ (i : ℕ). i) n) k in
+      let q = mem-of-keep (hasMark m) (places n) k in
       let s = mem-down (λ (i : ℕ). i) n i (q .0) in
       (rw (s .2) (s .1), q .1)
 
   pub falling-marked : (n : ℕ) → Falling (markedTo m n)
   falling-marked n =
-      in-turn-keep (λ (c x : ℕ). x < c) (hasMark m) (downTo (λ (i : ℕ). i) n) (down-falling (λ (i : ℕ). i) n (λ j k h l. h))
+      in-turn-keep (λ (c x : ℕ). x < c) (hasMark m) (places n) (down-falling (λ (i : ℕ). i) n (λ j k h l. h))
 
 -- ---- whether they are scored
 module _ (ss : List ℕ) (m i : ℕ) where
@@ -83,7 +83,7 @@ module _ (cs : List ℕ) (m : ℕ) where
 
   pub length-members-le : (n : ℕ) → length (membersTo cs m n) ≤ n
   length-members-le n =
-      let l = downTo (λ (i : ℕ). i) n in
+      let l = places n in
       rw (length-reverse (map at (markedTo m n)), length-map (markedTo m n) at)
       (omega (arith, length-keep-le (hasMark m) l, down-length (λ (i : ℕ). i) n))
 

@@ -18,8 +18,8 @@ use native.Mathlib.Nat.{min-le-left, min-le-right, lt-of-lt-of-le, le-trans}
 use lib.Dec.{T}
 use lib.IntN.{ℤ, pos, _+ℤ_}
 use lib.ListN.{length, getD}
-use Rattle.laws.specs.Limits.{narrow, rowCap}
-use Rattle.laws.specs.Lists.{keepIf, keep, Once, Falling, downTo}
+use Rattle.laws.specs.Limits.{Width, WidthFacts, rowCap}
+use Rattle.laws.specs.Lists.{keepIf, keep, Once, Falling, downTo, places}
 use Rattle.laws.specs.Row.{Row, isScored}
 use Rattle.laws.specs.State.{scored}
 use Rattle.laws.proofs.Appended.{map-through, once-reverse}
@@ -28,10 +28,10 @@ use Rattle.laws.proofs.Falling.{falling-once}
 use Rattle.laws.proofs.Keep.{every→, →every, keep-ext, keep-map}
 use Rattle.laws.proofs.Tests.{true-T}
 use Rattle.trees.specs.Heaviest.{weightIn}
-use Rattle.trees.specs.Rows.{cl}
 use Rattle.kept.specs.declared.table.Table.{Table}
-use Rattle.kept.specs.View.{rowAt, entriesOf, entryAt}
-use Rattle.kept.specs.Fit.{hasMark, isFit}
+use Rattle.kept.specs.View.{rowAt, entryAt, clustersIn}
+use Rattle.kept.specs.Marks.{hasMark}
+use Rattle.kept.specs.Fit.{isFit}
 use Rattle.kept.specs.Rows.{shownRows}
 use Rattle.kept.proofs.Laws.Fit.{FitTable, isFit→, fit→}
 use Rattle.members.specs.Marked.{markedTo, membersTo, scoredTo, total, weightTo}
@@ -42,9 +42,9 @@ use Rattle.members.proofs.Laws.Marked.{mem-marked, length-members-le, m
 pub members-capped : (t : Table) → length (membersOf t) ≤ rowCap
 members-capped t = le-trans (length-members-le (t .clusters) (leafMarks t) (shownRows t)) (min-le-right (t .rows) rowCap)
 
-module _ (t : Table) (e : isFit t ≡ true) where
-  facts : FitTable t
-  facts = isFit→ t (true-T e)
+module _ (W : Width) (facts : WidthFacts W) (t : Table) (e : isFit W t ≡ true) where
+  table : FitTable W t
+  table = isFit→ W facts t (true-T e)
 
   shown : {i : ℕ} → i < shownRows t → i < t .rows
   shown h = lt-of-lt-of-le h (min-le-left (t .rows) rowCap)
@@ -53,7 +53,7 @@ module _ (t : Table) (e : isFit t ≡ true) where
   downward = map (λ (i : ℕ). getD (t .clusters) i 0) (markedTo (leafMarks t) (shownRows t))
 
   falls : Falling downward
-  falls = falling-members (t .clusters) (leafMarks t) (shownRows t) (λ i j h k. facts .rising i j h (shown k))
+  falls = falling-members (t .clusters) (leafMarks t) (shownRows t) (λ i j h k. table .rising i j h (shown k))
 
   pub members-falling : Falling (reverse (membersOf t))
   members-falling = rw (reverse-reverse downward) falls
@@ -61,12 +61,12 @@ module _ (t : Table) (e : isFit t ≡ true) where
   pub members-once : Once (membersOf t)
   members-once = once-reverse downward (falling-once downward falls)
 
-  pub members-sound : (c : ℕ) → Mem c (membersOf t) → (c ≢ 0) × (c < 2 ^ narrow .taxa)
+  pub members-sound : (c : ℕ) → Mem c (membersOf t) → (c ≢ 0) × (c < 2 ^ W .taxa)
   members-sound c k =
       let q = mem-members (t .clusters) (leafMarks t) (shownRows t) c k in
       let i = q .0 in
       let h = shown (mem-marked (leafMarks t) (shownRows t) i (q .1) .0) in
-      let f = fit→ narrow (map cl (entriesOf t (t .rows))) (entryAt t i) (facts .fit i h) in
+      let f = fit→ W (clustersIn t) (entryAt t i) (table .fit i h) in
       (λ z. f .rules .has-taxon (sym (q .2) ∙ z), rw (q .2) (f .width))
 
   pub members-listed : T (areScored t) → (c : ℕ) → Mem c (membersOf t)
@@ -97,16 +97,16 @@ weightIn-is (r ∷ rs) p = go (p (r .cluster)) (weightIn-is rs p)
 
 module _ (m : ℕ) (p : ℕ → Bool) (cs : List ℕ) (n : ℕ) (tells : Tells cs m p n) where
   -- the marked rows are those whose cluster passes
-  marked-tell : markedTo m n ≡ keep (λ (i : ℕ). p (getD cs i 0)) (downTo (λ (i : ℕ). i) n)
+  marked-tell : markedTo m n ≡ keep (λ (i : ℕ). p (getD cs i 0)) (places n)
   marked-tell =
-      keep-ext (hasMark m) (λ (i : ℕ). p (getD cs i 0)) (downTo (λ (i : ℕ). i) n)
+      keep-ext (hasMark m) (λ (i : ℕ). p (getD cs i 0)) (places n)
       (λ i k. let q = mem-down (λ (i : ℕ). i) n i k in tells i (rw (q .2) (q .1)))
 
   pub members-tell : membersTo cs m n ≡ reverse (keep p (downTo (λ (i : ℕ). getD cs i 0) n))
   members-tell =
       let at : ℕ → ℕ = λ i. getD cs i 0 in
       ap (λ (l : List ℕ). reverse (map at l)) marked-tell
-      ∙ ap reverse (sym (keep-map at p (downTo (λ (i : ℕ). i) n)) ∙ ap (keep p) (down-map at (λ (i : ℕ). i) n))
+      ∙ ap reverse (sym (keep-map at p (places n)) ∙ ap (keep p) (down-map at (λ (i : ℕ). i) n))
 
   pub scored-tell : (ss : List ℕ) → ((i : ℕ) → i < n → T (p (getD cs i 0)) → T (scored (getD ss i 0))) → T (scoredTo ss m n)
   scored-tell ss f =
@@ -116,7 +116,7 @@ module _ (m : ℕ) (p : ℕ → Bool) (cs : List ℕ) (n : ℕ) (tells : Tells c
 pub weight-tell : (m : ℕ) (p : ℕ → Bool) (t : Table) (n : ℕ) → Tells (t .clusters) m p n
     → weightTo (t .weights) m n ≡ weightIn (downTo (rowAt t) n) p
 weight-tell m p t n tells =
-    let rows = downTo (λ (i : ℕ). i) n in
+    let rows = places n in
     ap (λ (l : List ℕ). total (map (λ (i : ℕ). getD (t .weights) i (pos 0)) l)) (marked-tell m p (t .clusters) n tells)
     ∙ ap total (sym (map-through (rowAt t) (λ (r : Row). r .weight) (λ (i : ℕ). rowAt t i .weight) (λ i. refl) (keep _ rows)))
     ∙ ap (λ (rs : List Row). total (map (λ (r : Row). r .weight) rs)) (sym (keep-map (rowAt t) (λ (r : Row). p (r .cluster)) rows))

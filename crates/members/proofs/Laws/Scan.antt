@@ -1,15 +1,15 @@
--- Loops over a list, over any test p: what the elements from place i on say is what all of them say.
---     drop-more             the elements from place i on are the one at i and those from the next place on
---     EveryFrom p l i       all pass where all from place i on do
---     SomeFrom p l i        one passes where one from place i on does
---     CountFrom p l n i     n and those from place i on that pass are all that pass
---     every-none, every-more, every-stop, every-end     the first place, a place that passes, one that doesn't, and the end; so for the
---                           other two: some-none, some-more, some-stop, some-end, count-none, count-more, count-same, count-end
---     count-le              no more pass than there are
+-- Loops over a list: what the elements from place i on say is what all of them say.
+--     drop-more            the elements from place i on are the one at i and those from the next place on
+--     From whole f l i     the whole is what f says of the elements from place i on
+--     from-none, from-more, from-stop, from-end     the first place; a place that is passed, one that decides, and the end
+--     EveryFrom, every-more, every-stop, every-end     whether all pass a test: a place that does, one that doesn't, and the end
+--     AnyFrom, any-more, any-stop, any-end             whether one passes, in the same way
+--     CountFrom p l n i    n and those from place i on that pass are all that pass
+--     count-none, count-more, count-same, count-end, count-le     none yet; one that passes, one that doesn't; all; no more than there are
 -- Assumes nothing.
-use mathlib.Core.Path.{_≡_, refl, ap, _∙_}
+use mathlib.Core.Path.{_≡_, refl, sym, ap, _∙_}
 use mathlib.Core.Bool.{Bool, true, false, _&&_, _||_}
-use mathlib.Core.List.{List, _∷_}
+use mathlib.Core.List.{List, [], _∷_}
 use Prim.Native.Nat.{ℕ, _+_, _≤_, _<_}
 use native.Mathlib.Numerals.{add-one}
 use native.Mathlib.Omega.{arith}
@@ -21,68 +21,66 @@ use Rattle.laws.proofs.Keep.{length-keep-le}
 pub drop-more : (l : List ℕ) (i : ℕ) → i < length l → drop i l ≡ getD l i 0 ∷ drop (i + 1) l
 drop-more l i h = rw (add-one i, drop-cons l i 0 h)
 
-pub record EveryFrom (p : ℕ → Bool) (l : List ℕ) (i : ℕ) : Type 0 where
+pub record From {B : Type 0} (whole : B) (f : List ℕ → B) (l : List ℕ) (i : ℕ) : Type 0 where
   pub place : i ≤ length l
-  pub rest : every p l ≡ every p (drop i l)
+  pub rest : whole ≡ f (drop i l)
 
-pub record SomeFrom (p : ℕ → Bool) (l : List ℕ) (i : ℕ) : Type 0 where
-  pub place : i ≤ length l
-  pub rest : any p l ≡ any p (drop i l)
+pub from-none : {B : Type 0} {f : List ℕ → B} {l : List ℕ} → From (f l) f l 0
+from-none = record { place = omega arith; rest = refl }
 
+module _ {B : Type 0} {whole : B} {f : List ℕ → B} {l : List ℕ} {i : ℕ} (s : From whole f l i) where
+  pub from-stop : i < length l → {y : B} → f (getD l i 0 ∷ drop (i + 1) l) ≡ y → y ≡ whole
+  from-stop h e = sym (s .rest ∙ ap f (drop-more l i h) ∙ e)
+
+  pub from-more : i < length l → {g : List ℕ → B} → f (getD l i 0 ∷ drop (i + 1) l) ≡ g (drop (i + 1) l) → From whole g l (i + 1)
+  from-more h e = record { place = omega arith; rest = sym (from-stop h e) }
+
+  pub from-end : length l ≤ i → f [] ≡ whole
+  from-end h = sym (s .rest ∙ ap f (drop-of-length-le l h))
+
+-- ---- all pass, or one does
+module _ (p : ℕ → Bool) (l : List ℕ) (i : ℕ) where
+  abbrev pub EveryFrom : Type 0
+  EveryFrom = From (every p l) (every p) l i
+
+  abbrev pub AnyFrom : Type 0
+  AnyFrom = From (any p l) (any p) l i
+
+module _ {p : ℕ → Bool} {l : List ℕ} {i : ℕ} where
+  pub every-more : EveryFrom p l i → i < length l → p (getD l i 0) ≡ true → EveryFrom p l (i + 1)
+  every-more s h e = from-more s h (ap (λ (b : Bool). b && every p (drop (i + 1) l)) e)
+
+  pub every-stop : EveryFrom p l i → i < length l → p (getD l i 0) ≡ false → false ≡ every p l
+  every-stop s h e = from-stop s h (ap (λ (b : Bool). b && every p (drop (i + 1) l)) e)
+
+  pub any-more : AnyFrom p l i → i < length l → p (getD l i 0) ≡ false → AnyFrom p l (i + 1)
+  any-more s h e = from-more s h (ap (λ (b : Bool). b || any p (drop (i + 1) l)) e)
+
+  pub any-stop : AnyFrom p l i → i < length l → p (getD l i 0) ≡ true → true ≡ any p l
+  any-stop s h e = from-stop s h (ap (λ (b : Bool). b || any p (drop (i + 1) l)) e)
+
+-- ---- how many pass
 pub record CountFrom (p : ℕ → Bool) (l : List ℕ) (n i : ℕ) : Type 0 where
-  pub place : i ≤ length l
-  pub rest : length (keep p l) ≡ n + length (keep p (drop i l))
+  pub from : From (length (keep p l)) (λ (r : List ℕ). n + length (keep p r)) l i
 
 module _ {p : ℕ → Bool} {l : List ℕ} where
-  -- ---- all pass
-  pub every-none : EveryFrom p l 0
-  every-none = record { place = omega arith; rest = refl }
-
-  pub every-more : {i : ℕ} → EveryFrom p l i → i < length l → p (getD l i 0) ≡ true → EveryFrom p l (i + 1)
-  every-more {i} s h e =
-      record { place = omega arith; rest = s .rest ∙ ap (every p) (drop-more l i h) ∙ ap (λ (b : Bool). b && every p (drop (i + 1) l)) e }
-
-  pub every-stop : {i : ℕ} → EveryFrom p l i → i < length l → p (getD l i 0) ≡ false → every p l ≡ false
-  every-stop {i} s h e = s .rest ∙ ap (every p) (drop-more l i h) ∙ ap (λ (b : Bool). b && every p (drop (i + 1) l)) e
-
-  pub every-end : {i : ℕ} → EveryFrom p l i → length l ≤ i → every p l ≡ true
-  every-end s h = s .rest ∙ ap (every p) (drop-of-length-le l h)
-
-  -- ---- one passes
-  pub some-none : SomeFrom p l 0
-  some-none = record { place = omega arith; rest = refl }
-
-  pub some-more : {i : ℕ} → SomeFrom p l i → i < length l → p (getD l i 0) ≡ false → SomeFrom p l (i + 1)
-  some-more {i} s h e =
-      record { place = omega arith; rest = s .rest ∙ ap (any p) (drop-more l i h) ∙ ap (λ (b : Bool). b || any p (drop (i + 1) l)) e }
-
-  pub some-stop : {i : ℕ} → SomeFrom p l i → i < length l → p (getD l i 0) ≡ true → any p l ≡ true
-  some-stop {i} s h e = s .rest ∙ ap (any p) (drop-more l i h) ∙ ap (λ (b : Bool). b || any p (drop (i + 1) l)) e
-
-  pub some-end : {i : ℕ} → SomeFrom p l i → length l ≤ i → any p l ≡ false
-  some-end s h = s .rest ∙ ap (any p) (drop-of-length-le l h)
-
-  -- ---- how many pass
-  -- one more or as many, by the test of the element at i
-  count-step : (b : Bool) {n i : ℕ} → CountFrom p l n i → i < length l → p (getD l i 0) ≡ b
-      → length (keep p l) ≡ n + length (keepIf b (getD l i 0) (keep p (drop (i + 1) l)))
-  count-step b {n} {i} s h e =
-      let x = getD l i 0 in
-      s .rest
-      ∙ ap (λ (r : List ℕ). n + length (keep p r)) (drop-more l i h)
-      ∙ ap (λ (t : Bool). n + length (keepIf t x (keep p (drop (i + 1) l)))) e
-
   pub count-none : CountFrom p l 0 0
-  count-none = record { place = omega arith; rest = omega arith }
+  count-none = record { from = record { place = omega arith; rest = omega arith } }
 
-  pub count-le : {n i : ℕ} → CountFrom p l n i → n ≤ length l
-  count-le s = omega (arith, s .rest, length-keep-le p l)
+  module _ {n i : ℕ} (s : CountFrom p l n i) where
+    -- one more or as many, by the test of the element at i
+    counted : (b : Bool) → p (getD l i 0) ≡ b → let rest = keep p (drop (i + 1) l) in
+        n + length (keep p (getD l i 0 ∷ drop (i + 1) l)) ≡ n + length (keepIf b (getD l i 0) rest)
+    counted b e = ap (λ (t : Bool). n + length (keepIf t (getD l i 0) (keep p (drop (i + 1) l)))) e
 
-  pub count-more : {n i : ℕ} → CountFrom p l n i → i < length l → p (getD l i 0) ≡ true → CountFrom p l (n + 1) (i + 1)
-  count-more s h e = record { place = omega arith; rest = omega (arith, count-step true s h e) }
+    pub count-more : i < length l → p (getD l i 0) ≡ true → CountFrom p l (n + 1) (i + 1)
+    count-more h e = record { from = from-more (s .from) h (counted true e ∙ omega arith) }
 
-  pub count-same : {n i : ℕ} → CountFrom p l n i → i < length l → p (getD l i 0) ≡ false → CountFrom p l n (i + 1)
-  count-same s h e = record { place = omega arith; rest = count-step false s h e }
+    pub count-same : i < length l → p (getD l i 0) ≡ false → CountFrom p l n (i + 1)
+    count-same h e = record { from = from-more (s .from) h (counted false e) }
 
-  pub count-end : {n i : ℕ} → CountFrom p l n i → length l ≤ i → n ≡ length (keep p l)
-  count-end {n} {i} s h = omega (arith, s .rest ∙ ap (λ (r : List ℕ). n + length (keep p r)) (drop-of-length-le l h))
+    pub count-end : length l ≤ i → n ≡ length (keep p l)
+    count-end h = omega (arith, from-end (s .from) h)
+
+    pub count-le : n ≤ length l
+    count-le = omega (arith, s .from .rest, length-keep-le p l)

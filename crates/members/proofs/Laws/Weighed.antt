@@ -20,7 +20,7 @@ use mir.Syntax.{w32, w64}
 use mir.Val.{SFits, toZ, ofZ}
 use Rattle.laws.specs.Limits.{rowCap}
 use Rattle.laws.proofs.Integers.{abs-sum-le, mag-le-abs}
-use Rattle.kept.specs.Fit.{hasMark}
+use Rattle.kept.specs.Marks.{hasMark}
 use Rattle.members.specs.Marked.{total, weightTo}
 use Rattle.members.proofs.Laws.Marked.{marked-takes, marked-skips}
 

@@ -7,6 +7,7 @@ use borrow.Author.Needs.{needs}
 use borrow.Author.Tests.{not-true, not-false}
 use Rattle.laws.specs.Limits.{narrow, rowCap}
 use Rattle.laws.proofs.Tests.{true-T}
+use Rattle.laws.proofs.Width.{narrow-facts}
 use Rattle.kept.specs.Fit.{isFit}
 use Rattle.kept.specs.Rows.{placeOf}
 use Rattle.kept.proofs.Laws.Fit.{isFit→}
@@ -16,17 +17,17 @@ use Rattle.members.proofs.draw.drawn_tree.Statement.{statement}
 use Rattle.members.proofs.draw.drawn_tree.Tie as tie
 
 -- ---- where the row has been looked up: the table is fit, and the row is the leaf set's
-abbrev looked-start : tie.After-row-of → tie.Start
+abbrev looked-start : tie.After-place-of → tie.Start
 looked-start s = s .before .before .before .before
 
-is-fit-there : (s : tie.After-row-of) → isFit (looked-start s .args .t1) ≡ true
+is-fit-there : (s : tie.After-place-of) → isFit narrow (looked-start s .args .t1) ≡ true
 is-fit-there s = let fit = s .before .before in sym (fit .before .is-fit .ensures) ∙ not-false _ (fit .if1 .left)
 
-rows-capped : (s : tie.After-row-of) → looked-start s .args .t1 .rows ≤ rowCap
-rows-capped s = isFit→ (looked-start s .args .t1) (true-T (is-fit-there s)) .capped
+rows-capped : (s : tie.After-place-of) → looked-start s .args .t1 .rows ≤ rowCap
+rows-capped s = isFit→ narrow narrow-facts (looked-start s .args .t1) (true-T (is-fit-there s)) .capped
 
-row-is : (s : tie.After-row-of) → s .row-of .result ≡ leafRow (looked-start s .args .t1)
-row-is s = s .row-of .ensures ∙ ap (placeOf (looked-start s .args .t1)) (s .before .leaf-set .ensures)
+row-is : (s : tie.After-place-of) → s .place-of .result ≡ leafRow (looked-start s .args .t1)
+row-is s = s .place-of .ensures ∙ ap (placeOf (looked-start s .args .t1)) (s .before .leaf-set .ensures)
 
 -- ---- the needs
 returns : tie.Need-returns
@@ -38,7 +39,7 @@ returns-2 : tie.Need-returns-2
 returns-2 c =
     let at = c .before .before in
     let t = looked-start at .args .t1 in
-    let none = hasTree-no-row t (at .row-of .result) (row-is at) (c .before .if2 .taken) in
+    let none = hasTree-no-row t (at .place-of .result) (row-is at) (c .before .if2 .taken) in
     c .not-drawn2 .ensures ∙ sym (drawn-no-tree narrow t (is-fit-there at) none)
 
 mul-if3 : tie.Need-mul-if3
@@ -51,7 +52,7 @@ returns-3 : tie.Need-returns-3
 returns-3 c =
     let at = c .before .before .before .before in
     let t = looked-start at .args .t1 in
-    let none = hasTree-no-count t (at .row-of .result) (row-is at) (c .before .if3 .taken) in
+    let none = hasTree-no-count t (at .place-of .result) (row-is at) (c .before .if3 .taken) in
     c .not-drawn3 .ensures ∙ sym (drawn-no-tree narrow t (is-fit-there at) none)
 
 drawn-members-requires : tie.Need-drawn-members-requires
@@ -64,7 +65,7 @@ drawn-members-requires c κs =
       place = below;
       top = at .before .leaf-set .ensures;
       row = row-is at;
-      tree = hasTree-count t (at .row-of .result) (row-is at) below (c .if3 .left);
+      tree = hasTree-count t (at .place-of .result) (row-is at) below (c .if3 .left);
     }
 
 pub drawn-tree-spec : {M : Type 1} → statement M

@@ -11,7 +11,7 @@ use lib.Dec.{leb}
 use lib.ListN.{length}
 use Rattle.laws.specs.Cluster.{single}
 use Rattle.trees.specs.Tree.{children}
-use Rattle.members.proofs.Laws.Scan.{EveryFrom, every-none, every-more, every-stop, every-end}
+use Rattle.members.proofs.Laws.Scan.{EveryFrom, every-more, every-stop, from-none, from-end}
 use Rattle.members.proofs.nesting.are_few.Statement.{statement}
 use Rattle.members.proofs.nesting.are_few.Tie as tie
 
@@ -21,16 +21,13 @@ Inv-loop xs most i₀ i = EveryFrom (λ (m : ℕ). single m || leb (length (chil
 abbrev μ-loop : tie.MeasureT-loop
 μ-loop xs most i₀ i = length xs - i
 
-loop-holds : tie.Need-loop-holds Inv-loop μ-loop
-loop-holds c = every-none
-
 returns : tie.Need-returns Inv-loop μ-loop
 returns c =
     let first = c .before .before in
     let turn = first .before .before .before in
     let no = sym (first .before .is-single .ensures) ∙ not-true _ (first .if1 .taken) in
     let many = lt-leb _ _ (rw (c .before .child-count .ensures) at (c .if2 .taken)) in
-    sym (every-stop (turn .before .loop .inv) (turn .loop-test .taken) (ap₂ _||_ no many))
+    every-stop (turn .before .loop .inv) (turn .loop-test .taken) (ap₂ _||_ no many)
 
 loop-again : tie.Need-loop-again Inv-loop μ-loop
 loop-again c =
@@ -43,7 +40,7 @@ loop-again c =
     (c .if1 .came))
 
 returns-2 : tie.Need-returns-2 Inv-loop μ-loop
-returns-2 c = sym (every-end (c .before .loop .inv) (c .loop-test .left))
+returns-2 c = from-end (c .before .loop .inv) (c .loop-test .left)
 
 pub are-few-spec : {M : Type 1} → statement M
 are-few-spec =
@@ -51,7 +48,7 @@ are-few-spec =
     (tie.spec
     Inv-loop
     μ-loop
-    loop-holds
+    (λ c. from-none)
     (λ c. omega arith)
     (λ c. omega arith)
     (λ c κs. search needs)

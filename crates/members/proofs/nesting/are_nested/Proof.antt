@@ -9,7 +9,7 @@ use borrow.Author.Tests.{not-true, not-false}
 use lib.ListN.{length}
 use Rattle.laws.specs.Cluster.{inside, nested}
 use Rattle.laws.specs.Lists.{every}
-use Rattle.members.proofs.Laws.Scan.{EveryFrom, every-none, every-more, every-stop, every-end}
+use Rattle.members.proofs.Laws.Scan.{EveryFrom, every-more, every-stop, from-none, from-end}
 use Rattle.members.proofs.nesting.are_nested.Statement.{statement}
 use Rattle.members.proofs.nesting.are_nested.Tie as tie
 
@@ -23,14 +23,11 @@ first-fails : (a b : Bool) → a ≡ false → (a && b) ≡ false
 first-fails a b e = rw e refl
 
 -- ---- the needs
-loop-holds : tie.Need-loop-holds Inv-loop μ-loop
-loop-holds c = every-none
-
 returns : tie.Need-returns Inv-loop μ-loop
 returns c =
     let turn = c .before .before .before in
     let outside = sym (c .before .is-inside .ensures) ∙ not-true _ (c .if1 .taken) in
-    sym (every-stop (turn .before .loop .inv) (turn .loop-test .taken) (first-fails _ _ outside))
+    every-stop (turn .before .loop .inv) (turn .loop-test .taken) (first-fails _ _ outside)
 
 returns-2 : tie.Need-returns-2 Inv-loop μ-loop
 returns-2 c =
@@ -38,7 +35,7 @@ returns-2 c =
     let turn = first .before .before .before in
     let within = sym (first .before .is-inside .ensures) ∙ not-false _ (first .if1 .left) in
     let crosses = sym (c .before .nests .ensures) ∙ not-true _ (c .if2 .taken) in
-    sym (every-stop (turn .before .loop .inv) (turn .loop-test .taken) (ap₂ _&&_ within crosses))
+    every-stop (turn .before .loop .inv) (turn .loop-test .taken) (ap₂ _&&_ within crosses)
 
 loop-again : tie.Need-loop-again Inv-loop μ-loop
 loop-again c =
@@ -49,7 +46,7 @@ loop-again c =
     every-more (turn .before .loop .inv) (turn .loop-test .taken) (ap₂ _&&_ within nests)
 
 returns-3 : tie.Need-returns-3 Inv-loop μ-loop
-returns-3 c = sym (every-end (c .before .loop .inv) (c .loop-test .left))
+returns-3 c = from-end (c .before .loop .inv) (c .loop-test .left)
 
 pub are-nested-spec : {M : Type 1} → statement M
 are-nested-spec =
@@ -57,7 +54,7 @@ are-nested-spec =
     (tie.spec
     Inv-loop
     μ-loop
-    loop-holds
+    (λ c. from-none)
     (λ c. omega arith)
     (λ c. omega arith)
     (λ c κs. search needs)

@@ -20,9 +20,6 @@ Inv-loop xs m count₀ i₀ count i = CountFrom (λ (k : ℕ). strict k m && not
 abbrev μ-loop : tie.MeasureT-loop
 μ-loop xs m count₀ i₀ count i = length xs - i
 
-loop-holds : tie.Need-loop-holds Inv-loop μ-loop
-loop-holds c = count-none
-
 add-count : tie.Need-add-count Inv-loop μ-loop
 add-count c =
     let turn = c .before .before .before .before .before in
@@ -51,7 +48,7 @@ child-count-spec =
     (tie.spec
     Inv-loop
     μ-loop
-    loop-holds
+    (λ c. count-none)
     (λ c. omega arith)
     (λ c. omega arith)
     (λ c κs. search needs)

@@ -6,31 +6,28 @@ use native.Mathlib.Omega.{arith}
 use borrow.Author.Tests.{eq-eqb, ne-eqb}
 use lib.Dec.{eqb}
 use lib.ListN.{length}
-use Rattle.members.proofs.Laws.Scan.{SomeFrom, some-none, some-more, some-stop, some-end}
+use Rattle.members.proofs.Laws.Scan.{AnyFrom, any-more, any-stop, from-none, from-end}
 use Rattle.members.proofs.nesting.has.Statement.{statement}
 use Rattle.members.proofs.nesting.has.Tie as tie
 
 abbrev Inv-loop : tie.InvT-loop
-Inv-loop xs c i₀ i = SomeFrom (λ (x : ℕ). eqb c x) xs i
+Inv-loop xs c i₀ i = AnyFrom (λ (x : ℕ). eqb c x) xs i
 
 abbrev μ-loop : tie.MeasureT-loop
 μ-loop xs c i₀ i = length xs - i
 
-loop-holds : tie.Need-loop-holds Inv-loop μ-loop
-loop-holds c = some-none
-
 returns : tie.Need-returns Inv-loop μ-loop
 returns c =
     let turn = c .before .before in
-    sym (some-stop (turn .before .loop .inv) (turn .loop-test .taken) (eq-eqb _ _ (sym (c .if1 .taken))))
+    any-stop (turn .before .loop .inv) (turn .loop-test .taken) (eq-eqb _ _ (sym (c .if1 .taken)))
 
 loop-again : tie.Need-loop-again Inv-loop μ-loop
 loop-again c =
     let turn = c .before .before in
-    some-more (turn .before .loop .inv) (turn .loop-test .taken) (ne-eqb _ _ (λ e. c .if1 .left (sym e)))
+    any-more (turn .before .loop .inv) (turn .loop-test .taken) (ne-eqb _ _ (λ e. c .if1 .left (sym e)))
 
 returns-2 : tie.Need-returns-2 Inv-loop μ-loop
-returns-2 c = sym (some-end (c .before .loop .inv) (c .loop-test .left))
+returns-2 c = from-end (c .before .loop .inv) (c .loop-test .left)
 
 pub has-spec : {M : Type 1} → statement M
 has-spec =
@@ -38,7 +35,7 @@ has-spec =
     (tie.spec
     Inv-loop
     μ-loop
-    loop-holds
+    (λ c. from-none)
     (λ c. omega arith)
     (λ c. omega arith)
     returns

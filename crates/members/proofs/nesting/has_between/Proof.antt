@@ -8,18 +8,15 @@ use native.Mathlib.Omega.{arith}
 use borrow.Author.Needs.{needs}
 use lib.ListN.{length}
 use Rattle.laws.specs.Cluster.{strict}
-use Rattle.members.proofs.Laws.Scan.{SomeFrom, some-none, some-more, some-stop, some-end}
+use Rattle.members.proofs.Laws.Scan.{AnyFrom, any-more, any-stop, from-none, from-end}
 use Rattle.members.proofs.nesting.has_between.Statement.{statement}
 use Rattle.members.proofs.nesting.has_between.Tie as tie
 
 abbrev Inv-loop : tie.InvT-loop
-Inv-loop xs k m i₀ i = SomeFrom (λ (l : ℕ). strict l m && strict k l) xs i
+Inv-loop xs k m i₀ i = AnyFrom (λ (l : ℕ). strict l m && strict k l) xs i
 
 abbrev μ-loop : tie.MeasureT-loop
 μ-loop xs k m i₀ i = length xs - i
-
-loop-holds : tie.Need-loop-holds Inv-loop μ-loop
-loop-holds c = some-none
 
 returns : tie.Need-returns Inv-loop μ-loop
 returns c =
@@ -27,17 +24,17 @@ returns c =
     let turn = first .before .before .before in
     let below = sym (first .before .is-strict .ensures) ∙ first .if1 .taken in
     let above = sym (c .before .is-strict2 .ensures) ∙ c .if2 .taken in
-    sym (some-stop (turn .before .loop .inv) (turn .loop-test .taken) (ap₂ _&&_ below above))
+    any-stop (turn .before .loop .inv) (turn .loop-test .taken) (ap₂ _&&_ below above)
 
 loop-again : tie.Need-loop-again Inv-loop μ-loop
 loop-again c =
     let turn = c .before .before .before in
     let below = sym (c .before .is-strict .ensures) in
-    some-more (turn .before .loop .inv) (turn .loop-test .taken)
+    any-more (turn .before .loop .inv) (turn .loop-test .taken)
     (⊎-elim (λ w. ap₂ _&&_ (below ∙ w .0 .taken) (sym (w .1 .ensures) ∙ w .2 .left)) (λ w. rw (below ∙ w .left)) (c .if1 .came))
 
 returns-2 : tie.Need-returns-2 Inv-loop μ-loop
-returns-2 c = sym (some-end (c .before .loop .inv) (c .loop-test .left))
+returns-2 c = from-end (c .before .loop .inv) (c .loop-test .left)
 
 pub has-between-spec : {M : Type 1} → statement M
 has-between-spec =
@@ -45,7 +42,7 @@ has-between-spec =
     (tie.spec
     Inv-loop
     μ-loop
-    loop-holds
+    (λ c. from-none)
     (λ c. omega arith)
     (λ c. omega arith)
     (λ c κs. search needs)

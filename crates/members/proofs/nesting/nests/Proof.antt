@@ -7,7 +7,7 @@ use borrow.Author.Needs.{needs}
 use borrow.Author.Tests.{not-true, not-false}
 use lib.ListN.{length}
 use Rattle.laws.specs.Cluster.{nested}
-use Rattle.members.proofs.Laws.Scan.{EveryFrom, every-none, every-more, every-stop, every-end}
+use Rattle.members.proofs.Laws.Scan.{EveryFrom, every-more, every-stop, from-none, from-end}
 use Rattle.members.proofs.nesting.nests.Statement.{statement}
 use Rattle.members.proofs.nesting.nests.Tie as tie
 
@@ -17,13 +17,10 @@ Inv-loop xs a i₀ i = EveryFrom (λ (b : ℕ). nested a b) xs i
 abbrev μ-loop : tie.MeasureT-loop
 μ-loop xs a i₀ i = length xs - i
 
-loop-holds : tie.Need-loop-holds Inv-loop μ-loop
-loop-holds c = every-none
-
 returns : tie.Need-returns Inv-loop μ-loop
 returns c =
     let turn = c .before .before .before in
-    sym (every-stop (turn .before .loop .inv) (turn .loop-test .taken) (sym (c .before .is-nested .ensures) ∙ not-true _ (c .if1 .taken)))
+    every-stop (turn .before .loop .inv) (turn .loop-test .taken) (sym (c .before .is-nested .ensures) ∙ not-true _ (c .if1 .taken))
 
 loop-again : tie.Need-loop-again Inv-loop μ-loop
 loop-again c =
@@ -31,7 +28,7 @@ loop-again c =
     every-more (turn .before .loop .inv) (turn .loop-test .taken) (sym (c .before .is-nested .ensures) ∙ not-false _ (c .if1 .left))
 
 returns-2 : tie.Need-returns-2 Inv-loop μ-loop
-returns-2 c = sym (every-end (c .before .loop .inv) (c .loop-test .left))
+returns-2 c = from-end (c .before .loop .inv) (c .loop-test .left)
 
 pub nests-spec : {M : Type 1} → statement M
 nests-spec =
@@ -39,7 +36,7 @@ nests-spec =
     (tie.spec
     Inv-loop
     μ-loop
-    loop-holds
+    (λ c. from-none)
     (λ c. omega arith)
     (λ c. omega arith)
     (λ c κs. search needs)

@@ -1,9 +1,9 @@
--- `members::nesting::is_strict` meets its contract: equal clusters fail, and of others the test is that of `inside`. Assumes nothing.
+-- `cluster::leaves::is_strict` meets its contract: equal clusters fail, and of others the test is that of `inside`. Assumes nothing.
 use mathlib.Core.Bool.{and-false, and-true}
 use borrow.Author.Needs.{needs}
 use borrow.Author.Tests.{eq-eqb, ne-eqb}
-use Rattle.members.proofs.nesting.is_strict.Statement.{statement}
-use Rattle.members.proofs.nesting.is_strict.Tie as tie
+use Rattle.cluster.proofs.leaves.is_strict.Statement.{statement}
+use Rattle.cluster.proofs.leaves.is_strict.Tie as tie
 
 returns : tie.Need-returns
 returns c = rw (eq-eqb _ _ (c .if1 .taken), and-false)
