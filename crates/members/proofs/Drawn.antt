@@ -8,13 +8,13 @@
 use mathlib.Core.Path.{_≡_, refl, sym, ap, ap₂, _∙_}
 use mathlib.Core.Logic.{_≢_}
 use mathlib.Core.Bool.{Bool, true, false, not, _&&_}
-use mathlib.Core.Option.{Option, none, some, Option·some-ne-none}
+use mathlib.Core.Option.{none, some, Option·some-ne-none}
 use mathlib.Core.List.{[], _∷_, reverse}
 use mathlib.Core.List.{List·Memᴰ as Mem}
-use Prim.Native.Nat.{ℕ, _^_, _<_}
+use Prim.Native.Nat.{ℕ, _^_, _≤_, _<_}
 use native.Mathlib.Nat.{le-trans}
-use native.Mathlib.Omega.{arith}
 use lib.Dec.{T}
+use lib.ListN.{length, take}
 use Rattle.laws.specs.Limits.{Width, WidthFacts}
 use Rattle.laws.specs.Lists.{Once, Falling}
 use Rattle.laws.specs.Row.{isScored}
@@ -23,7 +23,7 @@ use Rattle.cluster.specs.declared.refusal.Answer.{Answer}
 use Rattle.cluster.specs.declared.refusal.Answer.the-variants.{Done, Refused}
 use Rattle.cluster.specs.declared.refusal.Refusal.{Refusal}
 use Rattle.cluster.specs.declared.refusal.Refusal.the-variants.{NoTree, Unfit}
-use Rattle.cluster.proofs.Laws.Refusal.{sentOf-inj}
+use Rattle.cluster.proofs.Laws.Outcome.{outcome-only, ended-refused, ended-done}
 use Rattle.trees.specs.Tree.{isTree}
 use Rattle.kept.specs.declared.table.Table.{Table}
 use Rattle.kept.specs.View.{rowAt, resultAt}
@@ -33,27 +33,14 @@ use Rattle.kept.proofs.Laws.Fit.{isFit→}
 use Rattle.kept.proofs.Laws.Rows.{placeOf-at}
 use Rattle.members.specs.declared.draw.Drawn.{Drawn}
 use Rattle.members.specs.Marked.{weightTo}
-use Rattle.members.specs.Outcome.{Outcome, outcomeOf, ended}
-use Rattle.members.specs.Reasons.{when, firstReason}
+use Rattle.cluster.specs.Outcome.{Outcome, outcomeOf, ended}
+use Rattle.cluster.specs.Reasons.{when, firstReason}
 use Rattle.members.specs.Draw.{leafRow, hasTree, leafMarks, membersOf, areScored, weighsBest, isDrawable, drawReasons}
 use Rattle.members.specs.Draw.{DrawnMembers, noMembers, drawnMembers, drawnTree, drawnOf}
-use Rattle.members.specs.Gathered.{Holds}
+use Rattle.members.specs.Gathered.{Gathered}
+use Rattle.members.proofs.Laws.Gathered.{gathered-front, gathered-fits, gathered-count}
 use Rattle.members.proofs.Laws.Draw.{hasTree→, isSame→}
 use Rattle.members.proofs.Laws.Members.{members-falling, members-once, members-sound, members-listed}
-
--- ---- the answer of an operation
-
-module _ {A : Type 0} where
-  ended-refused : (o : Option Refusal) (stays : A) (n : ℕ) (given : A) {a : Answer} {x : A} {f : Refusal}
-      → outcomeOf a x ≡ ended o stays n given → a ≡ Refused f → o ≡ some f
-  ended-refused (some g) stays n given {a} e h = let same = sentOf-inj a (Refused g) (ap (λ (o : Outcome A). o .sent) e) in cc
-  ended-refused none stays n given {a} e h = let same = sentOf-inj a (Done n) (ap (λ (o : Outcome A). o .sent) e) in cc
-
-  ended-done : (o : Option Refusal) (stays : A) (n : ℕ) (given : A) {a : Answer} {x : A} {k : ℕ}
-      → outcomeOf a x ≡ ended o stays n given → a ≡ Done k → (o ≡ none) × (x ≡ given)
-  ended-done (some g) stays n given {a} e h =
-      let same = sentOf-inj a (Refused g) (ap (λ (o : Outcome A). o .sent) e) in let z : _≡_ {A = ℕ} 0 1 = cc in absurd (omega arith)
-  ended-done none stays n given e h = (refl, ap (λ (o : Outcome A). o .given) e)
 
 -- ---- a table of which something is drawn
 
@@ -103,29 +90,45 @@ pub record Success (W : Width) (t : Table) (r : Drawn) : Type 0 where
   pub none : firstReason (drawReasons W t) ≡ none
   pub table : Drawable W t
   pub row : r .row ≡ leafRow t
-  pub members : Holds (r .clusters) (r .size) (membersOf t)
+  -- the members are the first of the array
+  pub size : r .size ≡ length (membersOf t)
+  pub front : take (r .size) (r .clusters) ≡ membersOf t
+  pub fits : r .size ≤ length (r .clusters)
 
 module _ (W : Width) (t : Table) where
-  drawn-is : {o : Outcome DrawnMembers} → o ≡ drawnTree W t → o ≡ ended (firstReason (drawReasons W t)) noMembers 0 (drawnMembers t)
+  abbrev ends : Outcome DrawnMembers
+  ends = ended (firstReason (drawReasons W t)) noMembers 0 (drawnMembers t)
+
+  drawn-is : drawnTree W t ≡ ends
   unfolding drawnTree
-  drawn-is e = e
+  drawn-is = refl
+
+  abbrev given : Drawn → DrawnMembers
+  given r = record { row = r .row; clusters = r .clusters; size = r .size }
+
+  answered : (r : Drawn) {a : Answer} → drawnOf r ≡ drawnTree W t → r .answer ≡ a → ends ≡ outcomeOf a (given r)
+  answered r p e = sym (sym (ap (λ (a : Answer). outcomeOf a (given r)) e) ∙ p ∙ drawn-is)
 
   pub drawn-only : (x y : Drawn) → drawnOf x ≡ drawnTree W t → drawnOf y ≡ drawnTree W t → x ≡ y
   drawn-only x y p q =
-      let e = p ∙ sym q in
-      let a = sentOf-inj (x .answer) (y .answer) (ap (λ (o : Outcome DrawnMembers). o .sent) e) in
-      ap₂ (λ (a : Answer) (m : DrawnMembers). record { answer = a; row = m .row; clusters = m .clusters; size = m .size }) a
-      (ap (λ (o : Outcome DrawnMembers). o .given) e)
+      let e = outcome-only (x .answer) (y .answer) (given x) (given y) p q in
+      ap₂ (λ (a : Answer) (m : DrawnMembers). record { answer = a; row = m .row; clusters = m .clusters; size = m .size }) (e .0) (e .1)
 
   pub drawn-refused : {r : Drawn} {f : Refusal} → drawnOf r ≡ drawnTree W t → r .answer ≡ Refused f
       → firstReason (drawReasons W t) ≡ some f
-  drawn-refused p h = ended-refused (firstReason (drawReasons W t)) noMembers 0 (drawnMembers t) (drawn-is p) h
+  drawn-refused {r} {f} p h =
+      ended-refused (firstReason (drawReasons W t)) noMembers 0 (drawnMembers t) f (given r) (answered r p h) .0
 
   pub drawn-done : WidthFacts W → {r : Drawn} {n : ℕ} → drawnOf r ≡ drawnTree W t → r .answer ≡ Done n → Success W t r
-  drawn-done facts p h =
-      let q = ended-done (firstReason (drawReasons W t)) noMembers 0 (drawnMembers t) (drawn-is p) h in record {
+  drawn-done facts {r} {n} p h =
+      let q = ended-done (firstReason (drawReasons W t)) noMembers 0 (drawnMembers t) n (given r) (answered r p h) in
+      let g : Gathered (t .clusters) (leafMarks t) (shownRows t) (record { clusters = r .clusters; size = r .size }) =
+      record { size = ap (λ (m : DrawnMembers). m .size) (q .1); clusters = ap (λ (m : DrawnMembers). m .clusters) (q .1) }
+      in record {
         none = q .0;
         table = drawable W facts t (q .0);
         row = ap (λ (m : DrawnMembers). m .row) (q .1);
-        members = record { size = ap (λ (m : DrawnMembers). m .size) (q .1); clusters = ap (λ (m : DrawnMembers). m .clusters) (q .1) };
+        size = gathered-count g ∙ ap length (gathered-front g);
+        front = gathered-front g;
+        fits = gathered-fits g;
       }

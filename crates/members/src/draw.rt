@@ -15,7 +15,7 @@ use kept::leaf_set;
 use kept::place_of;
 ghost use mathlib.Core.Path.{_≡_};
 ghost use Rattle.laws.specs.Limits.{narrow};
-ghost use Rattle.members.specs.Outcome.{outcomeOf};
+ghost use Rattle.cluster.specs.Outcome.{outcomeOf};
 ghost use Rattle.members.specs.Draw.{noMembers, drawnTree, drawnOf};
 ghost use Rattle.members.specs.Gathered.{Found};
 

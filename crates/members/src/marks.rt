@@ -4,14 +4,14 @@
 //     members_of     the clusters of the marked rows, ascending
 //     are_scored     whether each marked row is scored
 //     weight_of      their weights added up
-use kept::SCORED;
+use cluster::is_scored;
 use kept::WORD_ROWS;
 ghost use mathlib.Core.Path.{_≡_};
 ghost use Prim.Native.Nat.{_+_, _*_, _≤_, _<_};
 ghost use Rattle.laws.specs.Limits.{rowCap, wordValues};
 ghost use Rattle.kept.specs.Marks.{hasMark};
-ghost use Rattle.members.specs.Marked.{membersTo, scoredTo, weightTo};
-ghost use Rattle.members.specs.Gathered.{Holds};
+ghost use Rattle.members.specs.Marked.{scoredTo, weightTo};
+ghost use Rattle.members.specs.Gathered.{Gathered};
 
 // The first `size` clusters are the members, ascending; the others are zero.
 pub(crate) struct Members {
@@ -33,7 +33,7 @@ fn is_marked(low: u64, high: u64, i: usize) -> bool
 // The clusters of the marked ones of the first `rows` rows.
 pub(crate) fn members_of(clusters: &[u64; 128], low: u64, high: u64, rows: usize) -> Members
     requires { ⌜ rows ≤ rowCap ⌝ }
-    ensures { λ r. ⌜ Holds (r .clusters) (r .size) (membersTo (now (clusters .entry)) (low + wordValues * high) rows) ⌝ }
+    ensures { λ r. ⌜ Gathered (now (clusters .entry)) (low + wordValues * high) rows r ⌝ }
 {
     let mut members = Members {
         clusters: [0; 128],
@@ -59,7 +59,7 @@ pub(crate) fn are_scored(states: &[u8; 128], low: u64, high: u64, rows: usize) -
     let mut i = 0;
     while i < rows {
         if is_marked(low, high, i) {
-            if states[i] != SCORED {
+            if !is_scored(states[i]) {
                 scored = false;
             }
         }

@@ -9,6 +9,7 @@
 use cluster::is_apart;
 use cluster::is_inside;
 use cluster::is_single;
+use cluster::is_strict;
 ghost use mathlib.Core.Path.{_≡_};
 ghost use mathlib.Core.Bool.{not, _&&_, _||_};
 ghost use Prim.Native.Nat.{_-_};
@@ -21,16 +22,6 @@ ghost use Rattle.trees.specs.Tree.{children, isTree};
 
 // Taxa that a cluster of this width can have.
 const TAXA: u32 = 32;
-
-// Whether `a` lies inside `b` and is another cluster.
-pub fn is_strict(a: u64, b: u64) -> bool
-    ensures { λ r. ⌜ r ≡ strict a b ⌝ }
-{
-    if a == b {
-        return false;
-    }
-    is_inside(a, b)
-}
 
 // Whether one lies inside the other, or they share no taxon.
 fn is_nested(a: u64, b: u64) -> bool

@@ -31,11 +31,11 @@ use Rattle.kept.specs.declared.table.Table.{Table}
 use Rattle.kept.specs.View.{resultAt}
 use Rattle.kept.specs.Fit.{isFit}
 use Rattle.kept.specs.Rows.{shownRows, leafSet}
-use Rattle.members.specs.Marked.{membersTo, scoredTo, weightTo}
-use Rattle.members.specs.Outcome.{Outcome, outcomeOf, ended}
-use Rattle.members.specs.Reasons.{Reason, when, firstReason}
+use Rattle.members.specs.Marked.{markedTo, membersTo, membersIn, scoredTo, weightTo}
+use Rattle.cluster.specs.Outcome.{Outcome, outcomeOf, ended}
+use Rattle.cluster.specs.Reasons.{Reason, when, firstReason}
 use Rattle.members.specs.Draw.{leafRow, hasTree, membersOf, isSame, areScored, weighsBest, isDrawable, drawReasons}
-use Rattle.members.specs.Draw.{DrawnMembers, padded, noMembers, drawnMembers, drawnTree}
+use Rattle.members.specs.Draw.{DrawnMembers, noMembers, drawnMembers, drawnTree}
 use Rattle.members.specs.Gathered.{Found}
 
 -- ---- whether there is a tree
@@ -109,7 +109,8 @@ module _ {W : Width} {t : Table} {c i : ℕ} (f : Found W t c i) where
       && isTree (W .taxa) (t .degree) C (membersTo (t .clusters) m n)
 
   abbrev membersAt : ℕ → ℕ → DrawnMembers
-  membersAt k n = let xs = membersTo (t .clusters) (resultAt t k .members) n in record { row = k; clusters = padded xs; size = length xs }
+  membersAt k n =
+      let rows = markedTo (resultAt t k .members) n in record { row = k; clusters = membersIn (t .clusters) rows; size = length rows }
 
   drawable-at : isDrawable W t ≡ drawableAt i (t .rows) c
   drawable-at = λ j. drawableAt (sym (f .row) j) (min-eq-left (f .capped) j) (sym (f .top) j)
@@ -132,7 +133,7 @@ module _ {W : Width} {t : Table} {c i : ℕ} (f : Found W t c i) where
       found-no-tree h = refused (tests-are ∙ h)
 
       pub found-tree : isTree (W .taxa) (t .degree) c members ≡ true
-          → outcomeOf (Done 0) (record { row = i; clusters = padded members; size = length members }) ≡ drawnTree W t
+          → outcomeOf (Done 0) (membersAt i (t .rows)) ≡ drawnTree W t
       found-tree h =
           sym (drawn-whole W t (f .fit) (f .tree) (drawable-at ∙ tests-are ∙ h)
           ∙ λ j. outcomeOf (Done 0) (membersAt (sym (f .row) j) (min-eq-left (f .capped) j)))

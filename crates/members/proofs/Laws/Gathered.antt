@@ -1,41 +1,57 @@
--- Clusters gathered in an array.
---     holds-none, holds-more     none; one more at the end
---     holds-front, holds-fits, holds-count     they are the first of the array, which is long enough
+-- The members gathered in an array.
+--     gathered-none, gathered-takes, gathered-skips     no row; one row more, marked or not
+--     gathered-front, gathered-fits, gathered-count     they are the first of the array, which is long enough
 -- Assumes nothing.
 use mathlib.Core.Path.{_≡_, refl, sym, ap, ap₂, _∙_}
-use mathlib.Core.List.{List, [], _∷_, _++_, append-assoc}
-use Prim.Native.Nat.{ℕ, suc, _+_, _-_, _≤_, _<_}
+use mathlib.Core.Bool.{true, false}
+use mathlib.Core.List.{List, _∷_, map, reverse}
+use Prim.Native.Nat.{ℕ, _+_, _-_, _≤_, _<_}
 use native.Mathlib.Omega.{arith}
-use lib.ListN.{length, length-append, replicate, set, take}
-use lib.Seq.{set-at, take-at}
+use lib.ListN.{length, getD, set, take, replicate, length-append, length-map, length-reverse}
+use lib.Seq.{take-at}
 use Rattle.laws.specs.Limits.{rowCap}
-use Rattle.members.specs.Draw.{padded}
-use Rattle.members.specs.Gathered.{Holds}
+use Rattle.laws.proofs.Column.{column-more}
+use Rattle.kept.specs.Marks.{hasMark}
+use Rattle.members.specs.declared.marks.Members.{Members}
+use Rattle.members.specs.Marked.{markedTo, membersTo, membersIn}
+use Rattle.members.specs.Gathered.{Gathered}
+use Rattle.members.proofs.Laws.Marked.{marked-takes, marked-skips, length-marked-le}
 
-pub holds-none : Holds (replicate rowCap 0) 0 []
-holds-none = record { size = refl; clusters = refl }
+pub gathered-none : {cs : List ℕ} {m : ℕ} → Gathered cs m 0 (record { clusters = replicate rowCap 0; size = 0 })
+gathered-none = record { size = refl; clusters = refl }
 
-module _ {s : List ℕ} {n : ℕ} {xs : List ℕ} (h : Holds s n xs) where
-  pub holds-front : take n s ≡ xs
-  holds-front = ap₂ take (h .size) (h .clusters) ∙ take-at xs (replicate (rowCap - length xs) 0) (length xs) refl
+module _ {cs : List ℕ} {m n : ℕ} {r : Members} (g : Gathered cs m n r) where
+  abbrev rows : List ℕ
+  rows = markedTo m n
 
-  pub holds-fits : n ≤ length s
-  holds-fits = omega (arith, h .size, ap length (h .clusters), length-append xs (replicate (rowCap - length xs) 0))
+  abbrev at : ℕ → ℕ
+  at i = getD cs i 0
 
-  pub holds-count : n ≡ length (take n s)
-  holds-count = h .size ∙ ap length (sym holds-front)
+  length-members : length (membersTo cs m n) ≡ length rows
+  length-members = length-reverse (map at rows) ∙ length-map rows at
 
-  pub holds-more : length xs < rowCap → (x : ℕ) → Holds (set s n x) (n + 1) (xs ++ (x ∷ []))
-  holds-more l x = record { size = rw (length-append xs (x ∷ [])) (omega (arith, h .size)); clusters = stored }
-    where
-      zeros : List ℕ
-      zeros = replicate (rowCap - length (xs ++ (x ∷ []))) 0
+  pub gathered-front : take (r .size) (r .clusters) ≡ membersTo cs m n
+  gathered-front =
+      ap₂ take (g .size) (g .clusters) ∙ take-at (membersTo cs m n) (replicate (rowCap - length rows) 0) (length rows) length-members
 
-      room : rowCap - length xs ≡ suc (rowCap - length (xs ++ (x ∷ [])))
-      room = rw (length-append xs (x ∷ [])) (omega arith)
+  pub gathered-fits : r .size ≤ length (r .clusters)
+  gathered-fits =
+      omega (arith, g .size, length-members, ap length (g .clusters), length-append (membersTo cs m n) (replicate (rowCap - length rows) 0))
 
-      stored : set s n x ≡ padded (xs ++ (x ∷ []))
-      stored =
-          ap₂ (λ (l : List ℕ) (k : ℕ). set l k x) (h .clusters ∙ ap (λ (k : ℕ). xs ++ replicate k 0) room) (h .size)
-          ∙ set-at xs 0 zeros x (length xs) refl
-          ∙ sym (append-assoc xs (x ∷ []) zeros)
+  pub gathered-count : r .size ≡ length (take (r .size) (r .clusters))
+  gathered-count = g .size ∙ sym (ap length gathered-front ∙ length-members)
+
+  pub gathered-takes : n < rowCap → hasMark m n ≡ true
+      → Gathered cs m (n + 1) (record { clusters = set (r .clusters) (r .size) (getD cs n 0); size = r .size + 1 })
+  gathered-takes h e = record {
+    size = rw (marked-takes m n e) (omega (arith, g .size));
+    clusters =
+        ap₂ (λ (l : List ℕ) (k : ℕ). set l k (at n)) (g .clusters) (g .size)
+        ∙ sym (ap (membersIn cs) (marked-takes m n e) ∙ column-more 0 at n rows (omega (arith, length-marked-le m n)));
+  }
+
+  pub gathered-skips : hasMark m n ≡ false → Gathered cs m (n + 1) r
+  gathered-skips e = record {
+    size = g .size ∙ sym (ap length (marked-skips m n e));
+    clusters = g .clusters ∙ sym (ap (membersIn cs) (marked-skips m n e));
+  }

@@ -1,22 +1,20 @@
 -- The marked rows one by one.
 --     mark-past                          the mark of a row from 64 on stands in the high word
 --     marked-takes, marked-skips         one row more, marked or not
---     mem-marked, falling-marked         which rows they are; the last stands first
---     scored-skips, scored-fails, scored-keeps     one row more: not marked; marked, and not scored or scored
---     length-members-le, members-takes   there are no more members than rows; one more
+--     length-marked-le, mem-marked, falling-marked     no more than there are rows; which they are; the last stands first
+--     scored-skips, scored-takes         one row more: not marked; marked, and scored or not
 --     mem-members                        each is the cluster of a marked row
 --     falling-members                    where the rows ascend, so do the members
 -- Assumes nothing.
-use mathlib.Core.Path.{_≡_, refl, sym, ap, _∙_, subst}
+use mathlib.Core.Path.{_≡_, refl, sym, ap, _∙_}
 use mathlib.Core.Bool.{Bool, true, false, _&&_}
-use mathlib.Core.List.{List, [], _∷_, _++_, map, reverse, reverse-cons, Memᴰ·of-map}
+use mathlib.Core.List.{List, [], _∷_, map, Memᴰ·of-map}
 use mathlib.Core.List.{List·Memᴰ as Mem, List·Memᴰ·head as here, List·Memᴰ·tail as there}
 use Prim.Native.Nat.{ℕ, _+_, _-_, _*_, _≤_, _<_}
 use native.Mathlib.Numerals.{add-one}
 use native.Mathlib.Omega.{arith}
-use borrow.Author.Tests.{eq-eqb, ne-eqb}
 use lib.Dec.{T}
-use lib.ListN.{length, getD, length-map, length-reverse}
+use lib.ListN.{length, getD}
 use Rattle.laws.specs.Limits.{wordValues}
 use Rattle.laws.specs.Lists.{every, Falling, places}
 use Rattle.laws.specs.State.{scored}
@@ -42,6 +40,9 @@ module _ (m : ℕ) where
   pub marked-skips : (i : ℕ) → hasMark m i ≡ false → markedTo m (i + 1) ≡ markedTo m i
   marked-skips i e = rw (add-one i, e)
 
+  pub length-marked-le : (n : ℕ) → length (markedTo m n) ≤ n
+  length-marked-le n = omega (arith, length-keep-le (hasMark m) (places n), down-length (λ (i : ℕ). i) n)
+
   pub mem-marked : (n i : ℕ) → Mem i (markedTo m n) → (i < n) × T (hasMark m i)
   mem-marked n i k =
       let q = mem-of-keep (hasMark m) (places n) k in
@@ -60,13 +61,8 @@ module _ (ss : List ℕ) (m i : ℕ) where
   pub scored-skips : hasMark m i ≡ false → scoredTo ss m (i + 1) ≡ scoredTo ss m i
   scored-skips e = ap areScored (marked-skips m i e)
 
-  pub scored-fails : hasMark m i ≡ true → (getD ss i 0 ≡ 1 → ⊥) → scoredTo ss m (i + 1) ≡ false
-  unfolding scored
-  scored-fails e n = ap areScored (marked-takes m i e) ∙ ap (λ (b : Bool). b && scoredTo ss m i) (ne-eqb (getD ss i 0) 1 n)
-
-  pub scored-keeps : hasMark m i ≡ true → getD ss i 0 ≡ 1 → scoredTo ss m (i + 1) ≡ scoredTo ss m i
-  unfolding scored
-  scored-keeps e n = ap areScored (marked-takes m i e) ∙ ap (λ (b : Bool). b && scoredTo ss m i) (eq-eqb (getD ss i 0) 1 n)
+  pub scored-takes : {b : Bool} → hasMark m i ≡ true → scored (getD ss i 0) ≡ b → scoredTo ss m (i + 1) ≡ (b && scoredTo ss m i)
+  scored-takes e k = ap areScored (marked-takes m i e) ∙ ap (λ (b : Bool). b && scoredTo ss m i) k
 
 -- ---- the members
 -- images that fall where the numbers do
@@ -80,15 +76,6 @@ falling-map f (x ∷ l) up h = (less, falling-map f l (λ i j a b. up i j (there
 module _ (cs : List ℕ) (m : ℕ) where
   abbrev at : ℕ → ℕ
   at i = getD cs i 0
-
-  pub length-members-le : (n : ℕ) → length (membersTo cs m n) ≤ n
-  length-members-le n =
-      let l = places n in
-      rw (length-reverse (map at (markedTo m n)), length-map (markedTo m n) at)
-      (omega (arith, length-keep-le (hasMark m) l, down-length (λ (i : ℕ). i) n))
-
-  pub members-takes : (i : ℕ) → hasMark m i ≡ true → membersTo cs m (i + 1) ≡ membersTo cs m i ++ (getD cs i 0 ∷ [])
-  members-takes i e = ap (λ (l : List ℕ). reverse (map at l)) (marked-takes m i e) ∙ reverse-cons (at i) (map at (markedTo m i))
 
   pub mem-members : (n x : ℕ) → Mem x (membersTo cs m n) → (i : ℕ) × Mem i (markedTo m n) × (x ≡ getD cs i 0)
   mem-members n x k =

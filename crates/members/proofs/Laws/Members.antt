@@ -2,7 +2,6 @@
 --     members-falling, members-once     they ascend, and none stands twice
 --     members-sound        none is empty, and each is within the width
 --     members-listed       each is the cluster of a scored row, where the marked rows are scored
---     members-capped       an array has room for them
 --     Tells cs m p n       of the first n clusters, those are marked in m that pass p
 --     members-tell         then the members are the clusters that pass
 --     scored-tell          they are scored where each cluster that passes is
@@ -14,10 +13,10 @@ use mathlib.Core.Bool.{Bool, true, false, cond}
 use mathlib.Core.List.{List, [], _∷_, map, reverse, reverse-reverse}
 use mathlib.Core.List.{List·Memᴰ as Mem}
 use Prim.Native.Nat.{ℕ, _^_, _≤_, _<_}
-use native.Mathlib.Nat.{min-le-left, min-le-right, lt-of-lt-of-le, le-trans}
+use native.Mathlib.Nat.{min-le-left, lt-of-lt-of-le}
 use lib.Dec.{T}
 use lib.IntN.{ℤ, pos, _+ℤ_}
-use lib.ListN.{length, getD}
+use lib.ListN.{getD}
 use Rattle.laws.specs.Limits.{Width, WidthFacts, rowCap}
 use Rattle.laws.specs.Lists.{keepIf, keep, Once, Falling, downTo, places}
 use Rattle.laws.specs.Row.{Row, isScored}
@@ -35,13 +34,10 @@ use Rattle.kept.specs.Fit.{isFit}
 use Rattle.kept.specs.Rows.{shownRows}
 use Rattle.kept.proofs.Laws.Fit.{FitTable, isFit→, fit→}
 use Rattle.members.specs.Marked.{markedTo, membersTo, scoredTo, total, weightTo}
-use Rattle.members.specs.Draw.{leafMarks, membersOf, areScored}
-use Rattle.members.proofs.Laws.Marked.{mem-marked, length-members-le, mem-members, falling-members}
+use Rattle.members.specs.Draw.{leafMarks, markedRows, membersOf, areScored}
+use Rattle.members.proofs.Laws.Marked.{mem-marked, mem-members, falling-members}
 
 -- ---- in a fit table
-pub members-capped : (t : Table) → length (membersOf t) ≤ rowCap
-members-capped t = le-trans (length-members-le (t .clusters) (leafMarks t) (shownRows t)) (min-le-right (t .rows) rowCap)
-
 module _ (W : Width) (facts : WidthFacts W) (t : Table) (e : isFit W t ≡ true) where
   table : FitTable W t
   table = isFit→ W facts t (true-T e)
@@ -50,7 +46,7 @@ module _ (W : Width) (facts : WidthFacts W) (t : Table) (e : isFit W t ≡ true)
   shown h = lt-of-lt-of-le h (min-le-left (t .rows) rowCap)
 
   abbrev downward : List ℕ
-  downward = map (λ (i : ℕ). getD (t .clusters) i 0) (markedTo (leafMarks t) (shownRows t))
+  downward = map (λ (i : ℕ). getD (t .clusters) i 0) (markedRows t)
 
   falls : Falling downward
   falls = falling-members (t .clusters) (leafMarks t) (shownRows t) (λ i j h k. table .rising i j h (shown k))
@@ -72,10 +68,9 @@ module _ (W : Width) (facts : WidthFacts W) (t : Table) (e : isFit W t ≡ true)
   pub members-listed : T (areScored t) → (c : ℕ) → Mem c (membersOf t)
       → (i : ℕ) × (i < t .rows) × (c ≡ rowAt t i .cluster) × T (isScored (rowAt t i))
   members-listed h c k =
-      let rows = markedTo (leafMarks t) (shownRows t) in
       let q = mem-members (t .clusters) (leafMarks t) (shownRows t) c k in
       let i = q .0 in
-      (i, shown (mem-marked (leafMarks t) (shownRows t) i (q .1) .0), q .2, every→ (λ (i : ℕ). scored (getD (t .states) i 0)) rows h i (q .1))
+      (i, shown (mem-marked (leafMarks t) (shownRows t) i (q .1) .0), q .2, every→ (λ (i : ℕ). scored (getD (t .states) i 0)) (markedRows t) h i (q .1))
 
 -- ---- the marks of a test
 abbrev pub Tells : List ℕ → ℕ → (ℕ → Bool) → ℕ → Type 0

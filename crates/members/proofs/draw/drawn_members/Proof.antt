@@ -12,9 +12,9 @@ use Rattle.cluster.specs.declared.refusal.Answer.the-variants.{Done}
 use Rattle.trees.specs.Tree.{isTree}
 use Rattle.kept.specs.View.{resultAt}
 use Rattle.members.specs.Marked.{scoredTo, weightTo}
-use Rattle.members.specs.Outcome.{outcomeOf}
+use Rattle.cluster.specs.Outcome.{outcomeOf}
 use Rattle.members.proofs.Laws.Weighed.{same-bits}
-use Rattle.members.proofs.Laws.Gathered.{holds-fits, holds-count, holds-front}
+use Rattle.members.proofs.Laws.Gathered.{gathered-fits, gathered-count, gathered-front}
 use Rattle.members.proofs.Laws.Draw.{found-unscored, found-other, found-no-tree, found-tree}
 use Rattle.members.proofs.draw.drawn_members.Statement.{statement}
 use Rattle.members.proofs.draw.drawn_members.Tie as tie
@@ -47,10 +47,10 @@ returns-2 c =
     (λ e. c .before .if2 .taken (ap (ofZ w64) (c .before .before .weight-of .ensures ∙ e)))
 
 array-share-prefix-clusters : tie.Need-array-share-prefix-clusters
-array-share-prefix-clusters c = holds-fits (c .before .members-of .ensures)
+array-share-prefix-clusters c = gathered-fits (c .before .members-of .ensures)
 
 slice-aggregate-is-tree : tie.Need-slice-aggregate-is-tree
-slice-aggregate-is-tree c = holds-count (c .before .before .members-of .ensures)
+slice-aggregate-is-tree c = gathered-count (c .before .before .members-of .ensures)
 
 returns-3 : tie.Need-returns-3
 returns-3 c =
@@ -59,7 +59,7 @@ returns-3 c =
     let second = held .before .before .before in
     let first = second-first second in
     let a = first-start first .args in
-    let members = holds-front (held .members-of .ensures) in
+    let members = gathered-front (held .members-of .ensures) in
     let no = ap (isTree (narrow .taxa) (a .t1 .degree) (a .top)) (sym members) ∙ sym (tested .is-tree .ensures) ∙ not-true _ (c .before .if3 .taken) in
     c .not-drawn3 .ensures ∙ found-no-tree (first-start first .pre) (first-passed first) (second-passed second) no
 
@@ -71,7 +71,7 @@ returns-4 c =
     let first = second-first second in
     let a = first-start first .args in
     let h = held .members-of .ensures in
-    let yes = ap (isTree (narrow .taxa) (a .t1 .degree) (a .top)) (sym (holds-front h)) ∙ sym (tested .is-tree .ensures) ∙ not-false _ (c .if3 .left) in
+    let yes = ap (isTree (narrow .taxa) (a .t1 .degree) (a .top)) (sym (gathered-front h)) ∙ sym (tested .is-tree .ensures) ∙ not-false _ (c .if3 .left) in
     ap₂ (λ (l : List ℕ) (n : ℕ). outcomeOf (Done 0) (record { row = a .row; clusters = l; size = n })) (h .clusters) (h .size)
     ∙ found-tree (first-start first .pre) (first-passed first) (second-passed second) yes
 

@@ -5,30 +5,28 @@ use mathlib.Core.Logic.{⊎-elim}
 use Prim.Native.Nat.{_+_, _-_, _*_, _≤_, _<_}
 use native.Mathlib.Omega.{arith}
 use denote.Ref.{now}
-use lib.ListN.{length, getD}
 use Rattle.laws.specs.Limits.{rowCap, wordValues}
-use Rattle.members.specs.Marked.{membersTo}
-use Rattle.members.specs.Gathered.{Holds}
-use Rattle.members.proofs.Laws.Marked.{marked-skips, length-members-le, members-takes}
-use Rattle.members.proofs.Laws.Gathered.{holds-none, holds-more}
+use Rattle.members.specs.Gathered.{Gathered}
+use Rattle.members.proofs.Laws.Marked.{length-marked-le}
+use Rattle.members.proofs.Laws.Gathered.{gathered-none, gathered-takes, gathered-skips}
 use Rattle.members.proofs.marks.members_of.Statement.{statement}
 use Rattle.members.proofs.marks.members_of.Tie as tie
 
 abbrev Inv-loop : tie.InvT-loop
-Inv-loop clusters low high rows members₀ i₀ members i = (i ≤ rows) × Holds (members .clusters) (members .size) (membersTo clusters (low + wordValues * high) i)
+Inv-loop clusters low high rows members₀ i₀ members i = (i ≤ rows) × Gathered clusters (low + wordValues * high) i members
 
 abbrev μ-loop : tie.MeasureT-loop
 μ-loop clusters low high rows members₀ i₀ members i = rows - i
 
 loop-holds : tie.Need-loop-holds Inv-loop μ-loop
-loop-holds c = (omega arith, holds-none)
+loop-holds c = (omega arith, gathered-none)
 
 -- there is room for one more
 room : (c : tie.Then1 Inv-loop μ-loop) → c .before .before .before .loop .members .size < rowCap
 room c =
     let at-loop = c .before .before .before in
     let a = at-loop .before .args in
-    omega (arith, at-loop .loop .inv .1 .size, length-members-le (now (a .clusters)) (a .low + wordValues * a .high) (at-loop .loop .i))
+    omega (arith, at-loop .loop .inv .1 .size, length-marked-le (a .low + wordValues * a .high) (at-loop .loop .i))
 
 mul-members-2 : tie.Need-mul-members-2 Inv-loop μ-loop
 mul-members-2 c = omega (arith, room (c .before))
@@ -48,10 +46,8 @@ loop-again c =
     let i = at-loop .loop .i in
     let h = at-loop .loop .inv .1 in
     let mark = sym (c .before .is-marked .ensures) in
-    let few : length (membersTo cs m i) < rowCap = omega (arith, length-members-le cs m i) in
-    let step : Holds (c .if1 .members .clusters) (c .if1 .members .size) (membersTo cs m (i + 1)) =
-    ⊎-elim (λ w. rw (w .2, members-takes cs m i (mark ∙ w .0 .taken)) (holds-more h few (getD cs i 0)))
-    (λ w. rw (w .1, marked-skips m i (mark ∙ w .0 .left)) h)
+    let step : Gathered cs m (i + 1) (c .if1 .members) =
+    ⊎-elim (λ w. rw (w .2) (gathered-takes h (omega arith) (mark ∙ w .0 .taken))) (λ w. rw (w .1) (gathered-skips h (mark ∙ w .0 .left)))
     (c .if1 .came)
     in
     (omega arith, step)
