@@ -6,8 +6,8 @@
 //     text_of        the whole text
 use cluster::is_inside;
 use cluster::is_single;
+use cluster::is_strict;
 use cluster::lowest;
-use members::is_strict;
 use texts::Text;
 use texts::add;
 use texts::add_decimal;
