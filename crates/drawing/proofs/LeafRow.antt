@@ -45,7 +45,8 @@ use Rattle.kept.proofs.Laws.Fit.{isFit→}
 use Rattle.kept.proofs.Laws.Marks.{clusters-are}
 use Rattle.kept.proofs.Laws.Rows.{placeOf-first, hasRow-is, unionTo-is}
 use Rattle.kept.proofs.Laws.View.{entries-table, table-sized}
-use Rattle.table.proofs.Fitting.FitTables.{Accepted, built-fit}
+use Rattle.table.proofs.Laws.Build.{Buildable}
+use Rattle.table.proofs.Fitting.FitTables.{built-fit}
 use Rattle.drawing.specs.Draw.{leafRow, hasTree}
 use Rattle.drawing.proofs.Laws.Draw.{hasTree→, hasTree-count}
 
@@ -60,7 +61,7 @@ treesOf d rs = treesOn (narrow .taxa) d (scoredIn rs) (leaves rs)
 
 -- ---- the rows of the table
 
-module _ (d : ℕ) (rs : List Row) (k : Accepted d rs) where
+module _ (d : ℕ) (rs : List Row) (k : Buildable narrow d rs) where
   abbrev t : Table
   t = builtFrom d rs
 

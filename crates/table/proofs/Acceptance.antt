@@ -41,8 +41,7 @@ use Rattle.table.proofs.Laws.Listing.{breaks, bad-is, repeat-is}
 use Rattle.table.proofs.Laws.Listing.{rows-mem, rows-has, rows-fall, rows-length, row-facts, row-rules}
 use Rattle.table.proofs.Laws.Refused.{refusal-low, refusal-high, refusal-empty, refusal-long, refusal-cut, refusal-whole}
 use Rattle.table.proofs.Laws.Refused.{none-some, record-bad, record-repeated, record-none}
-use Rattle.table.proofs.Laws.Build.{build-of}
-use Rattle.table.proofs.Laws.Build as build
+use Rattle.table.proofs.Laws.Build.{build-of, Buildable}
 use Rattle.table.proofs.Laws.Accepted.{KeepsAt, Repeats, Takes, Whole, Accepted, Why}
 use Rattle.table.proofs.Laws.Accepted.{test→keeps, keeps→test, broken→test, test→repeats, repeats→test, new→test, test→new}
 
@@ -152,11 +151,11 @@ module _ (l : List ℕ) (d : ℕ) where
   accepted-facts byte a =
       row-facts l byte n (λ i h. keeps→test l i (a .kept i h)) (λ i h. new→test l i (a .once i h))
 
-  pub accepted-rows : ((i : ℕ) → getD l i 0 < byteValues) → Accepted l d → build.Accepted d (rowsOf l)
+  pub accepted-rows : ((i : ℕ) → getD l i 0 < byteValues) → Accepted l d → Buildable narrow d (rowsOf l)
   accepted-rows byte a = record {
     low = a .whole .takes .low;
     high = a .whole .takes .high;
-    some = omega (arith, rows-length l n, a .whole .filled, a .whole .uncut);
+    filled = omega (arith, rows-length l n, a .whole .filled, a .whole .uncut);
     capped = omega (arith, rows-length l n, a .whole .short);
     facts = accepted-facts byte a;
     rules = row-rules l byte n (λ i h. keeps→test l i (a .kept i h));

@@ -10,13 +10,13 @@
 -- Assumes nothing.
 use mathlib.Core.Path.{_≡_}
 use mathlib.Core.Logic.{_⊎_, _≢_}
-use mathlib.Core.List.{List, [], _∷_, List·Memᴰ as Mem}
-use Prim.Native.Nat.{ℕ, zero, suc, _+_, _*_, _^_, _≤_, _<_}
+use mathlib.Core.List.{List, List·Memᴰ as Mem}
+use Prim.Native.Nat.{ℕ, suc, _+_, _*_, _^_, _≤_, _<_}
 use lib.Dec.{T}
 use lib.IntN.{ℤ, pos}
 use lib.ListN.{length, getD}
 use Rattle.laws.specs.Cluster.{highest}
-use Rattle.laws.specs.Lists.{keep, Falling}
+use Rattle.laws.specs.Lists.{keep, Falling, downTo}
 use Rattle.laws.specs.Limits.{rowCap, wordValues}
 use Rattle.laws.specs.Row.{Row, isScored}
 use Rattle.trees.specs.Rows.{Entry, sc}
@@ -71,8 +71,7 @@ partTally k i = record {
 }
 
 abbrev pub partsOf : Columns → ℕ → List (Entry Res)
-partsOf k zero = []
-partsOf k (suc i) = partAt k i ∷ partsOf k i
+partsOf k = downTo (partAt k)
 
 -- numbers of tuples beside counts with keys; a row's own value plays no part in the sums
 abbrev pub sumKind : Kind Res
@@ -111,7 +110,7 @@ pub record Long (k : Columns) (n : ℕ) : Type 0 where
 pub record GoodRow (limit : ℕ) (cs : List ℕ) (r : Row) (v : Result) : Type 0 where
   pub counted : v .count ≤ limit
   pub marked : (v .mark ≡ 0) ⊎ ((v .mark ≡ 1) × (v .count ≡ limit))
-  pub told : T (isTold cs r v)
+  pub bounded : T (isTold cs r v)
 
 -- the first n rows ascend, and the results of the scored ones may be added up; cs are the clusters of all rows
 pub record Sound (limit : ℕ) (k : Columns) (cs : List ℕ) (n : ℕ) : Type 0 where
@@ -137,7 +136,7 @@ pub record Searchable (limit : ℕ) (k : Columns) (starts : List ℕ) (end rest 
   pub capped : rows ≤ rowCap
   pub rising : Rising (k .clusters) rows
   pub begins : Starts (k .clusters) rows starts
-  pub some : 0 < rest
+  pub nonzero : 0 < rest
   pub small : rest < wordValues
   pub run : getD starts (highest rest) 0 ≤ end
   pub reach : end ≤ getD starts (suc (highest rest)) 0

@@ -3,7 +3,7 @@
 --     tallyOf limit x       the tally of a result
 --     decoded v             the count and key that a row's fields stand for
 --     fieldsTally v         the fields of a row as a tally
---     noTally, plusCounts, timesCounts, isLarger, isBefore, keepsFirst, plusTally, underTally     the code's operations
+--     noTally, cappedSum, cappedProduct, isLarger, isBefore, keepsFirst, plusTally, underTally     the code's operations
 --     lowMark, highMark, ownTally     a row by itself
 -- Assumes nothing.
 use mathlib.Core.Bool.{Bool, true, false, cond}
@@ -57,15 +57,15 @@ manyCount limit = record { count = limit; mark = 1 }
 abbrev pub exactCount : ℕ → Count
 exactCount n = record { count = n; mark = 0 }
 
-unfoldable pub plusCounts : ℕ → Tally → Tally → Count
-plusCounts limit a b =
+unfoldable pub cappedSum : ℕ → Tally → Tally → Count
+cappedSum limit a b =
     cond (eqb (a .mark) 1) (manyCount limit)
     (cond (eqb (b .mark) 1) (manyCount limit)
     (cond (ltb (limit - b .count) (a .count)) (manyCount limit)
     (exactCount (a .count + b .count))))
 
-unfoldable pub timesCounts : ℕ → Tally → Tally → Count
-timesCounts limit a b =
+unfoldable pub cappedProduct : ℕ → Tally → Tally → Count
+cappedProduct limit a b =
     cond (eqb (a .count) 0) (exactCount 0)
     (cond (eqb (b .count) 0) (exactCount 0)
     (cond (eqb (a .mark) 1) (manyCount limit)
@@ -86,7 +86,7 @@ abbrev pub withCount : Tally → ℕ → Count → Tally
 withCount a n c = record { tuples = n; count = c .count; mark = c .mark; best = a .best; low = a .low; high = a .high }
 
 unfoldable pub plusTally : ℕ → Tally → Tally → Tally
-plusTally limit a b = withCount (cond (keepsFirst a b) a b) (a .tuples + b .tuples) (plusCounts limit a b)
+plusTally limit a b = withCount (cond (keepsFirst a b) a b) (a .tuples + b .tuples) (cappedSum limit a b)
 
 abbrev pub withTuples : Tally → ℕ → Tally
 withTuples a n = record { tuples = n; count = a .count; mark = a .mark; best = a .best; low = a .low; high = a .high }
@@ -103,8 +103,8 @@ joinTally a b c w = record {
 
 unfoldable pub underTally : ℕ → Tally → Tally → Tally
 underTally limit a b =
-    cond (eqb (timesCounts limit a b .count) 0) (withTuples noTally (b .tuples))
-    (joinTally a b (timesCounts limit a b) (a .best +ℤ b .best))
+    cond (eqb (cappedProduct limit a b .count) 0) (withTuples noTally (b .tuples))
+    (joinTally a b (cappedProduct limit a b) (a .best +ℤ b .best))
 
 -- ---- a row by itself
 abbrev pub lowMark : ℕ → ℕ

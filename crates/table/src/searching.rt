@@ -16,6 +16,7 @@ ghost use mathlib.Core.Path.{_≡_};
 ghost use mathlib.Core.List.{[]};
 ghost use Prim.Native.Nat.{_≤_, _<_};
 ghost use lib.ListN.{length, replicate};
+ghost use Rattle.laws.specs.Limits.{degreeHigh};
 ghost use Rattle.kept.specs.Arrays.{Rising};
 ghost use Rattle.table.specs.Tally.{tallyOf};
 ghost use Rattle.table.specs.Searched.{columns, partTally, partsOf, sumCovers, Past, Below, Starts, Readable, Searchable};
@@ -133,7 +134,7 @@ pub(crate) fn search<'a>(
 ) -> Tally
     requires { ⌜ Searchable limit
         (columns (now clusters) (now states) (now counts) (now marks) (now bests) (now lows) (now highs)) (now starts) end rest ⌝ }
-    requires { ⌜ (1 ≤ left) × (left ≤ 4) ⌝ }
+    requires { ⌜ (1 ≤ left) × (left < degreeHigh) ⌝ }
     ensures { λ r. ⌜ r ≡ tallyOf limit (sumCovers left rest (partsOf
         (columns (now (clusters .entry)) (now (states .entry)) (now (counts .entry)) (now (marks .entry))
         (now (bests .entry)) (now (lows .entry)) (now (highs .entry))) end)) ⌝ }

@@ -32,7 +32,7 @@ use Rattle.kept.proofs.Laws.Fit.{FitTable, isFit→, →blankFrom, fit-rules}
 use Rattle.kept.proofs.Laws.Marks.{clusters-are}
 use Rattle.kept.proofs.Laws.Rows.{hasRow-is, placeOf-first}
 use Rattle.table.specs.Rescore.{isScore, newTable}
-use Rattle.table.specs.Working.{clustersOf, againTable, Workable}
+use Rattle.table.specs.Working.{tableClusters, againTable, Workable}
 use Rattle.table.proofs.Fitting.FitTables.{put-rules}
 
 -- ---- the row of the cluster, as the code looks it up
@@ -130,14 +130,14 @@ module _ (t : Table) (c : ℕ) (z : ℤ) (s : ℕ) (sized : Sized t) (fit : T (i
   score-entries (suc n) h =
       ap₂ (λ (e : Entry Result) (l : List (Entry Result)). e ∷ l) (score-entry n (omega arith)) (score-entries n (omega arith))
 
-  pub score-again : againTable new c ≡ newTable t c z s
+  pub score-again : againTable narrow new c ≡ newTable t c z s
   score-again =
       ap₂ (λ (cs : List ℕ) (es : List (Entry Result)). tableOf (t .degree) (again (workedOut narrow (t .degree) cs) c es))
       (sym (clusters-are t (t .rows))) (score-entries (t .rows) (omega arith))
 
   -- as the code has it: the weight through its bits
-  pub score-done : (w : ℤ) → w ≡ z → (u : Table) → u ≡ againTable (withScore t i w s) c → u ≡ newTable t c z s
-  score-done w e u q = q ∙ ap (λ (v : ℤ). againTable (withScore t i v s) c) e ∙ score-again
+  pub score-done : (w : ℤ) → w ≡ z → (u : Table) → u ≡ againTable narrow (withScore t i w s) c → u ≡ newTable t c z s
+  score-done w e u q = q ∙ ap (λ (v : ℤ). againTable narrow (withScore t i v s) c) e ∙ score-again
 
   score-sized : Sized new
   score-sized = record {
@@ -152,24 +152,24 @@ module _ (t : Table) (c : ℕ) (z : ℤ) (s : ℕ) (sized : Sized t) (fit : T (i
     highs = sized .highs;
   }
 
-  given-fit : (j : ℕ) → j < t .rows → T (fitEntry narrow (clustersOf t) (entryAt t j))
+  given-fit : (j : ℕ) → j < t .rows → T (fitEntry narrow (tableClusters t) (entryAt t j))
   given-fit j h = subst (λ (cs : List ℕ). T (fitEntry narrow cs (entryAt t j))) (clusters-are t (t .rows)) (facts .fit j h)
 
   score-rules : T (isScore z s) → (j : ℕ) → j < t .rows → T (keepsRules narrow (rowAt new j))
   score-rules k j h =
       subst (λ (e : Entry Result). T (keepsRules narrow (e .row))) (sym (score-entry j h))
-      (put-rules c z s k (rowAt t j) (fit-rules narrow (clustersOf t) (entryAt t j) (given-fit j h)))
+      (put-rules c z s k (rowAt t j) (fit-rules narrow (tableClusters t) (entryAt t j) (given-fit j h)))
 
   -- a row that doesn't contain c isn't the row of c
-  score-fit : (j : ℕ) → j < t .rows → (T (inside c (getD (t .clusters) j 0)) → ⊥) → T (fitEntry narrow (clustersOf new) (entryAt new j))
+  score-fit : (j : ℕ) → j < t .rows → (T (inside c (getD (t .clusters) j 0)) → ⊥) → T (fitEntry narrow (tableClusters new) (entryAt new j))
   score-fit j h n =
       let at : j ≡ i → getD (t .clusters) j 0 ≡ c = λ e. ap (λ (m : ℕ). getD (t .clusters) m 0) e ∙ found in
       let other : j ≢ i = λ e. n (subst (λ (x : ℕ). T (inside c x)) (sym (at e)) (inside-refl c)) in
-      subst (λ (e : Entry Result). T (fitEntry narrow (clustersOf t) e)) (sym (score-other t i z s j other)) (given-fit j h)
+      subst (λ (e : Entry Result). T (fitEntry narrow (tableClusters t) e)) (sym (score-other t i z s j other)) (given-fit j h)
 
-  pub score-workable : T (isScore z s) → ((j : ℕ) → j < t .rows → getD (t .«members_low») j 0 < wordValues) → Workable new c
+  pub score-workable : T (isScore z s) → ((j : ℕ) → j < t .rows → getD (t .«members_low») j 0 < wordValues) → Workable narrow new c
   score-workable k words = record {
-    some = facts .some;
+    filled = facts .some;
     capped = facts .capped;
     sized = score-sized;
     low = facts .low;

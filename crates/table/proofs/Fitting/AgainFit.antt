@@ -1,7 +1,7 @@
 -- Every row of a table is fit once the rows that contain a cluster are worked out again, if the other rows were fit.
 --     Listed W cs t          rows that fall, keep the record rules, and are among the rows with the clusters cs
 --     again-row, again-length     which rows the table then has
---     again-fit              each of them is fit
+--     again-over, again-fit     each of them may be worked out over those beneath, and is fit
 -- Assumes nothing.
 use mathlib.Core.Path.{_≡_, refl, sym, ap, _∙_, subst}
 use mathlib.Core.Logic.{_⊎_, inl, inr, _≢_}
@@ -64,7 +64,7 @@ module _ (W : Width) (one-limit : 1 ≤ W .countMax) (d c : ℕ) (cs : List ℕ)
   F = workedOut W d cs
 
   -- the rows beneath e, as they then stand, may be added up
-  again-over : (e : Entry Result) (t : List (Entry Result)) → Listed W cs (e ∷ t)
+  pub again-over : (e : Entry Result) (t : List (Entry Result)) → Listed W cs (e ∷ t)
       → ((x : Entry Result) → Mem x (again F c t) → T (fitEntry W cs x))
       → Over (W .countMax) cs (e .row) (again F c t)
   again-over e t k f = record {

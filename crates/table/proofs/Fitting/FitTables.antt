@@ -4,7 +4,7 @@
 --     table-fit              the table of fit rows is fit
 --     again-table-fit        so is that of rows worked out again
 --     rescored-fit           a fit table, rescored, is fit
---     Accepted, built-fit    a built table is fit (`Accepted` is passed on from `Laws/Build.antt`)
+--     built-fit              a built table is fit
 -- Assumes nothing.
 use mathlib.Core.Path.{_≡_, refl, sym, ap, _∙_, subst}
 use mathlib.Core.Logic.{_≢_}
@@ -35,18 +35,17 @@ use Rattle.kept.specs.Fit.{keepsRules, fitEntry, isFit}
 use Rattle.table.specs.Arranged.{unworked}
 use Rattle.table.specs.Rescore.{isScore, newTable}
 use Rattle.table.proofs.Fitting.AgainFit.{Listed, again-fit}
-pub use Rattle.table.proofs.Laws.Build.{Accepted}
 use Rattle.kept.proofs.Laws.Column.{entries-length, mem-entries}
 use Rattle.kept.proofs.Laws.Fit.{recordIn, rules→, →rules, fit-rules, isFit→, →isFit, fit-falls, fit-each, entries-rising}
 use Rattle.kept.proofs.Laws.View.{entries-table, table-past, blank→empty}
-use Rattle.table.proofs.Laws.Build.{unworked-clusters, again-built}
+use Rattle.table.proofs.Laws.Build.{Buildable, unworked-clusters, again-built}
 
 -- ---- rows that may be made a table of
 
 pub record InTable (d : ℕ) (es : List (Entry Result)) (P : Entry Result → Type 0) : Type 0 where
   pub low : degreeLow ≤ d
   pub high : d ≤ degreeHigh
-  pub some : 1 ≤ length es
+  pub filled : 1 ≤ length es
   pub capped : length es ≤ rowCap
   pub falls : Falling (map cl es)
   pub each : (e : Entry Result) → Mem e es → P e
@@ -63,7 +62,7 @@ carried : (d : ℕ) (es xs : List (Entry Result)) (P Q : Entry Result → Type 0
 carried d es xs P Q same k f = record {
   low = k .low;
   high = k .high;
-  some = omega (arith, count, k .some);
+  filled = omega (arith, count, k .filled);
   capped = omega (arith, count, k .capped);
   falls = rw same (k .falls);
   each = f;
@@ -78,7 +77,7 @@ pub table-fit : (d : ℕ) (es : List (Entry Result)) → FitRows d es → T (isF
 table-fit d es f = →isFit t (record {
   low = f .low;
   high = f .high;
-  some = f .some;
+  some = f .filled;
   capped = f .capped;
   rising = entries-rising t (rw (entries-table d es) (f .falls));
   fit = λ i l. rw (entries-table d es)
@@ -109,7 +108,7 @@ module _ (d c : ℕ) (es : List (Entry Result)) (k : Rows d es) where
       each : (e : Entry Result) → Mem e (again F c es) → T (fitEntry narrow (map cl es) e)
       each =
           again-fit narrow (lit≤ tt) d c (map cl es) (k .falls) (nonzero-rows d es k) es listed
-          (narrow-facts .tuples d (length es - 1) (k .high) (omega (arith, k .some, k .capped))) f
+          (narrow-facts .tuples d (length es - 1) (k .high) (omega (arith, k .filled, k .capped))) f
 
   pub again-table-fit : ((e : Entry Result) → Mem e es → (T (inside c (cl e)) → ⊥) → T (fitEntry narrow (map cl es) e))
       → T (isFit (tableOf d (again F c es)))
@@ -173,7 +172,7 @@ fit-rows t h =
     record {
       low = f .low;
       high = f .high;
-      some = omega (arith, n, f .some);
+      filled = omega (arith, n, f .some);
       capped = omega (arith, n, f .capped);
       falls = fit-falls t f;
       each = fit-each t f;
@@ -184,12 +183,12 @@ rescored-fit t c z s h score = put-table-fit c z s score (t .degree) (entriesOf 
 
 -- ---- built
 
-module _ (d : ℕ) (rs : List Row) (k : Accepted d rs) where
+module _ (d : ℕ) (rs : List Row) (k : Buildable narrow d rs) where
   accepted-rows : Rows d (map unworked rs)
   accepted-rows = record {
     low = k .low;
     high = k .high;
-    some = omega (arith, length-map rs unworked, k .some);
+    filled = omega (arith, length-map rs unworked, k .filled);
     capped = omega (arith, length-map rs unworked, k .capped);
     falls = rw (unworked-clusters rs) (k .facts .falls);
     each = λ e m. let q = Memᴰ·of-map unworked rs m in
@@ -198,5 +197,5 @@ module _ (d : ℕ) (rs : List Row) (k : Accepted d rs) where
 
   pub built-fit : T (isFit (tableOf d (builtTable narrow d rs)))
   built-fit =
-      subst (λ (es : List (Entry Result)). T (isFit (tableOf d es))) (again-built d rs (k .facts))
+      subst (λ (es : List (Entry Result)). T (isFit (tableOf d es))) (again-built narrow narrow-facts d rs (k .facts))
       (again-table-fit d 0 (map unworked rs) accepted-rows (λ e m n. absurd (n (zero-inside (cl e)))))

@@ -1,7 +1,7 @@
 -- Building: what is given in each case, and that working out the arranged rows of an accepted list is the build.
 --     build-of                what is given, by why the list is refused
 --     build-only              two outcomes that the promise of a build allows are equal
---     Accepted d rs           what holds of the rows of an accepted list
+--     Buildable W d rs        what holds of the rows of an accepted list
 --     clusters-of-rows, unworked-clusters     the clusters of rows, beside any results and beside none
 --     again-all, again-built  working every row out again makes the table anew, which is the built one
 --     workable, again-is      they may be worked out, and so worked out they are the built table
@@ -18,11 +18,12 @@ use native.Mathlib.Omega.{arith}
 use lib.Dec.{T}
 use lib.ListN.{length, getD, length-map}
 use Rattle.laws.specs.Cluster.{inside}
-use Rattle.laws.specs.Limits.{narrow, degreeLow, degreeHigh, rowCap}
+use Rattle.laws.specs.Limits.{Width, narrow, WidthFacts, degreeLow, degreeHigh, rowCap}
 use Rattle.laws.specs.Row.{Row}
 use Rattle.laws.proofs.Appended.{map-through}
 use Rattle.laws.proofs.Cluster.{zero-inside}
 use Rattle.laws.proofs.Tests.{T-true}
+use Rattle.laws.proofs.Width.{narrow-facts}
 use Rattle.cluster.specs.declared.refusal.Answer.{Answer}
 use Rattle.cluster.specs.declared.refusal.Answer.the-variants.{Done}
 use Rattle.cluster.specs.declared.refusal.Refusal.{Refusal}
@@ -71,13 +72,13 @@ build-only l d x y p q =
 
 -- ---- the rows of an accepted list are worked out
 
-pub record Accepted (d : ℕ) (rs : List Row) : Type 0 where
+pub record Buildable (W : Width) (d : ℕ) (rs : List Row) : Type 0 where
   pub low : degreeLow ≤ d
   pub high : d ≤ degreeHigh
-  pub some : 1 ≤ length rs
-  pub capped : length rs ≤ rowCap
-  pub facts : RowFacts (narrow .taxa) rs
-  pub rules : (r : Row) → Mem r rs → T (keepsRules narrow r)
+  pub filled : 1 ≤ length rs
+  pub capped : length rs ≤ W .rows
+  pub facts : RowFacts (W .taxa) rs
+  pub rules : (r : Row) → Mem r rs → T (keepsRules W r)
 
 module _ (val : Row → Result) where
   pub clusters-of-rows : (rs : List Row) → map cl (map (λ (r : Row). record { row = r; val = val r }) rs) ≡ clustersOf rs
@@ -94,14 +95,14 @@ again-all F (r ∷ rs) =
     ∙ ap (λ (t : List (Entry Result)). record { row = r; val = F r t } ∷ t) (again-all F rs)
 
 -- every row worked out from rows with no results
-pub again-built : (d : ℕ) (rs : List Row) → RowFacts (narrow .taxa) rs
-    → again (workedOut narrow d (map cl (map unworked rs))) 0 (map unworked rs) ≡ builtTable narrow d rs
-again-built d rs facts =
-    again-all (workedOut narrow d (map cl (map unworked rs))) rs
-    ∙ ap (λ (cs : List ℕ). workedFrom (workedOut narrow d cs) rs) (unworked-clusters rs)
-    ∙ worked-is-built narrow (omega arith) d rs facts
+pub again-built : (W : Width) → WidthFacts W → (d : ℕ) (rs : List Row) → RowFacts (W .taxa) rs
+    → again (workedOut W d (map cl (map unworked rs))) 0 (map unworked rs) ≡ builtTable W d rs
+again-built W asked d rs facts =
+    again-all (workedOut W d (map cl (map unworked rs))) rs
+    ∙ ap (λ (cs : List ℕ). workedFrom (workedOut W d cs) rs) (unworked-clusters rs)
+    ∙ worked-is-built W (asked .counts) d rs facts
 
-module _ (d : ℕ) (rs : List Row) (k : Accepted d rs) where
+module _ (W : Width) (asked : WidthFacts W) (d : ℕ) (rs : List Row) (k : Buildable W d rs) where
   abbrev es : List (Entry Result)
   es = map unworked rs
 
@@ -114,15 +115,18 @@ module _ (d : ℕ) (rs : List Row) (k : Accepted d rs) where
   same-clusters : clustersDown (table .clusters) (length es) ≡ map cl es
   same-clusters = sym (clusters-are table (length es)) ∙ ap (map cl) (entries-table d es)
 
-  pub again-is : againTable table 0 ≡ tableOf d (builtTable narrow d rs)
+  pub again-is : againTable W table 0 ≡ tableOf d (builtTable W d rs)
   again-is =
       ap (tableOf d) (
-      ap₂ (λ (cs : List ℕ) (t : List (Entry Result)). again (workedOut narrow d cs) 0 t) same-clusters (entries-table d es)
-      ∙ again-built d rs (k .facts))
+      ap₂ (λ (cs : List ℕ) (t : List (Entry Result)). again (workedOut W d cs) 0 t) same-clusters (entries-table d es)
+      ∙ again-built W asked d rs (k .facts))
+
+  room : length es ≤ rowCap
+  room = omega (arith, count, k .capped, asked .rows)
 
   rising : Rising (table .clusters) (length es)
   rising = record {
-    long = omega (arith, table-sized d es (omega (arith, count, k .capped)) .clusters, count, k .capped);
+    long = omega (arith, table-sized d es room .clusters, room);
     up = falling-ascends (table .clusters) (length es) (rw (same-clusters, unworked-clusters rs) (k .facts .falls));
   }
 
@@ -130,15 +134,15 @@ module _ (d : ℕ) (rs : List Row) (k : Accepted d rs) where
   at-row : (i : ℕ) → i < length es → (r : Row) × Mem r rs × (unworked r ≡ entryAt table i)
   at-row i h = Memᴰ·of-map unworked rs (subst (Mem (entryAt table i)) (entries-table d es) (mem-entries table (length es) i h))
 
-  pub workable : Workable table 0
+  pub workable : Workable W table 0
   workable = record {
-    some = omega (arith, count, k .some);
+    filled = omega (arith, count, k .filled);
     capped = omega (arith, count, k .capped);
-    sized = table-sized d es (omega (arith, count, k .capped));
+    sized = table-sized d es room;
     low = k .low;
     high = k .high;
     rising = rising;
-    rules = λ i h. let q = at-row i h in subst (λ (e : Entry Result). T (keepsRules narrow (e .row))) (q .2) (k .rules (q .0) (q .1));
+    rules = λ i h. let q = at-row i h in subst (λ (e : Entry Result). T (keepsRules W (e .row))) (q .2) (k .rules (q .0) (q .1));
     fit = λ i h out. absurd (out (zero-inside (rowAt table i .cluster)));
     words = λ i h. omega (arith, ap (λ (e : Entry Result). e .val .members) (at-row i h .2));
     blank = table-blank d es (rowCap - length es);
@@ -197,18 +201,18 @@ module _ {l : List ℕ} {n : ℕ} {s : Listed} {o : Order} (d : ℕ) (known : In
         (through-ext (rowFrom s) (rowIn l) (o .places) n as-read ∙ known .order .rows all-placed l has-clusters)
 
     module _ (byte : (i : ℕ) → getD l i 0 < byteValues) (ready : Makeable l n d) where
-      rows : Accepted d (rowsTo l n)
+      rows : Buildable narrow d (rowsTo l n)
       rows = record {
         low = ready .low;
         high = ready .high;
-        some = omega (arith, rows-length l n, ready .some);
+        filled = omega (arith, rows-length l n, ready .filled);
         capped = omega (arith, rows-length l n, ready .room);
         facts = row-facts l byte n kept once;
         rules = row-rules l byte n kept;
       }
 
-      pub made-workable : Workable (arrangedTable (rowFrom s) (o .places) n d) 0
-      made-workable = rw arranged-is (workable d (rowsTo l n) rows)
+      pub made-workable : Workable narrow (arrangedTable (rowFrom s) (o .places) n d) 0
+      made-workable = rw arranged-is (workable narrow narrow-facts d (rowsTo l n) rows)
 
       accepted : recordRefusal l n ≡ none
       accepted = record-none l n n n none-bad (omega arith) none-repeated (omega arith)
@@ -217,9 +221,9 @@ module _ {l : List ℕ} {n : ℕ} {s : Listed} {o : Order} (d : ℕ) (known : In
       rows-are : rowsTo l n ≡ rowsOf l
       rows-are = ap (rowsTo l) (let e : n ≡ length l / recordBytes = omega (arith, ready .whole) in e)
 
-      pub made-accepted : (t : Table) → t ≡ againTable (arrangedTable (rowFrom s) (o .places) n d) 0
+      pub made-accepted : (t : Table) → t ≡ againTable narrow (arrangedTable (rowFrom s) (o .places) n d) 0
           → record { sent = sentOf (Done 0); table = t } ≡ madeOf l d (recordRefusal l n)
       made-accepted t e =
-          let built = e ∙ ap (λ (u : Table). againTable u 0) arranged-is ∙ again-is d (rowsTo l n) rows in
+          let built = e ∙ ap (λ (u : Table). againTable narrow u 0) arranged-is ∙ again-is narrow narrow-facts d (rowsTo l n) rows in
           let all-rows = built ∙ ap (λ (rs : List Row). tableOf d (builtTable narrow d rs)) rows-are in
           ap (λ (u : Table). record { sent = sentOf (Done 0); table = u }) all-rows ∙ ap (madeOf l d) (sym accepted)

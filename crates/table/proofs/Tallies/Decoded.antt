@@ -37,7 +37,7 @@ use Rattle.table.proofs.Rows.Marked.{marked-mem, every-marked→, marks
 pub good-of-fit : (W : Width) (cs : List ℕ) (e : Entry Result) → T (fitEntry W cs e) → GoodRow (W .countMax) cs (e .row) (e .val)
 good-of-fit W cs e h =
     let f = fit→ W cs e h in
-    record { counted = f .ranged .counted; marked = f .ranged .marked; told = →told cs (e .row) (e .val) (f .told) }
+    record { counted = f .ranged .counted; marked = f .ranged .marked; bounded = →told cs (e .row) (e .val) (f .told) }
 
 -- ---- what the fields stand for
 
@@ -70,7 +70,7 @@ tally-encode limit x = go (x .1)
 
 module _ (limit : ℕ) (cs : List ℕ) (r : Row) (v : Result) (g : GoodRow limit cs r v) where
   tells : Told cs r v
-  tells = told→ cs r v (g .told)
+  tells = told→ cs r v (g .bounded)
 
   -- beside any row length
   pub encode-with : (n : ℕ)

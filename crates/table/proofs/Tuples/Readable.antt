@@ -10,7 +10,7 @@
 -- Assumes nothing.
 use mathlib.Core.Path.{_≡_, refl, sym, ap, _∙_, subst}
 use mathlib.Core.Logic.{_≢_}
-use mathlib.Core.Bool.{Bool, cond}
+use mathlib.Core.Bool.{Bool, true, false, cond}
 use mathlib.Core.Option.{none}
 use mathlib.Core.List.{List, map, List·Memᴰ as Mem}
 use Prim.Native.Nat.{ℕ, _≤_, _<_}
@@ -23,6 +23,7 @@ use Rattle.laws.specs.State.{scored}
 use Rattle.laws.specs.Limits.{wordValues}
 use Rattle.laws.specs.Row.{isScored}
 use Rattle.laws.proofs.Descends.{Descends}
+use Rattle.laws.proofs.Down.{mem-down, down-mem}
 use Rattle.laws.proofs.Tests.{T-true, T-false, eq→eqb}
 use Rattle.trees.specs.Rows.{Entry, cl, sc}
 use Rattle.trees.specs.Kind.{Res}
@@ -31,7 +32,7 @@ use Rattle.kept.proofs.Laws.Marks.{rising-part}
 use Rattle.table.specs.Tally.{tallyOf, noTally, decoded}
 use Rattle.table.specs.Searched.{Columns, rowOf, fieldsOf, partAt, partTally, partsOf, sumKind, sumCovers}
 use Rattle.table.specs.Searched.{Below, Long, Sound, Readable}
-use Rattle.table.proofs.Tuples.Searched.{mem-parts, parts-mem, parts-descend, sumCovers-search}
+use Rattle.table.proofs.Tuples.Searched.{parts-descend, sumCovers-search}
 use Rattle.table.proofs.Tallies.Decoded.{decoded-keeps, fields-tally}
 use Rattle.table.proofs.Tallies.Held.{Part}
 
@@ -42,6 +43,12 @@ scored-of-one s e = eq→eqb s 1 e
 pub one-of-scored : (s : ℕ) → T (scored s) → s ≡ 1
 unfolding scored
 one-of-scored s h = eqb→eq s 1 h
+
+pub scored-of : (s : ℕ) → s ≡ 1 → scored s ≡ true
+scored-of s e = T-true (scored s) (scored-of-one s e)
+
+pub unscored-of : (s : ℕ) → s ≢ 1 → scored s ≡ false
+unscored-of s n = T-false (scored s) (λ t. n (one-of-scored s t))
 
 -- ---- fewer rows
 
@@ -92,7 +99,7 @@ module _ (limit : ℕ) (k : Columns) (cs : List ℕ) (n : ℕ) (s : Sound limit 
   pub parts-keep : (b : ℕ) → ((i : ℕ) → i < n → getD (k .clusters) i 0 < b)
       → (e : Entry Res) → Mem e (partsOf k n) → T (sc e) → Part cs b e
   parts-keep b top e m t =
-      let q = mem-parts k n e m in
+      let q = mem-down (partAt k) n e m in
       rw (q .2) (part-keeps b (q .0) (q .1) (top (q .0) (q .1)) (subst (λ (x : Entry Res). T (sc x)) (q .2) t))
 
   pub part-is : LowWords k → (i : ℕ) → i < n → T (isScored (rowOf k i)) → partTally k i ≡ tallyOf limit (1, decoded (fieldsOf k i))
@@ -109,7 +116,7 @@ module _ (limit : ℕ) (k : Columns) (cs : List ℕ) (n : ℕ) (s : Sound limit 
     none-is f = ap (tallyOf limit) (sym (one-is ∙ lookup-missing sumKind R (partsOf k n) other))
       where
         other : (x : Entry Res) → Mem x (partsOf k n) → cl x ≢ R
-        other x m e = let q = mem-parts k n x m in f (q .0) (q .1) (sym (ap cl (q .2)) ∙ e)
+        other x m e = let q = mem-down (partAt k) n x m in f (q .0) (q .1) (sym (ap cl (q .2)) ∙ e)
 
     -- a is the number of rows below R
     module _ (a : ℕ) (b : Below (k .clusters) n R a) where
@@ -130,7 +137,7 @@ module _ (limit : ℕ) (k : Columns) (cs : List ℕ) (n : ℕ) (s : Sound limit 
         row-is e =
             one-is
             ∙ subst (λ (x : ℕ). lookup sumKind x (partsOf k n) ≡ cond (sc (partAt k a)) (partAt k a .val) (sumKind .none)) e
-            (lookup-row sumKind (partsOf k n) parts-fall (partAt k a) (parts-mem k n a h))
+            (lookup-row sumKind (partsOf k n) parts-fall (partAt k a) (down-mem (partAt k) n a h))
 
         pub unscored-is : getD (k .clusters) a 0 ≡ R → getD (k .states) a 0 ≢ 1 → noTally ≡ tallyOf limit (sumCovers 1 R (partsOf k n))
         unscored-is e f =

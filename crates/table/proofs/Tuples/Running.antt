@@ -16,8 +16,9 @@ use native.Mathlib.Omega.{arith}
 use lib.Dec.{T}
 use lib.ListN.{getD}
 use Rattle.laws.specs.Cluster.{inside, highest}
-use Rattle.laws.specs.Limits.{wordValues}
+use Rattle.laws.specs.Limits.{degreeHigh, wordValues}
 use Rattle.laws.proofs.Descends.{Descends}
+use Rattle.laws.proofs.Down.{mem-down}
 use Rattle.trees.specs.Rows.{Entry, cl, sc}
 use Rattle.trees.specs.Kind.{Res}
 use Rattle.trees.proofs.Counting.Capped.{Counted}
@@ -27,7 +28,7 @@ use Rattle.trees.proofs.Searching.Search.{scan, gain, search-more, scan-ended, 
 use Rattle.table.specs.declared.tally.Tally.{Tally}
 use Rattle.table.specs.Tally.{tallyOf, noTally, plusTally}
 use Rattle.table.specs.Searched.{Columns, partAt, partsOf, sumKind, sumCovers, Searchable}
-use Rattle.table.proofs.Tuples.Searched.{mem-parts, sumCovers-search}
+use Rattle.table.proofs.Tuples.Searched.{sumCovers-search}
 use Rattle.table.proofs.Tallies.Counts.{tally-tuples, tally-count-le}
 use Rattle.table.proofs.Tallies.Encoded.{tally-plus}
 use Rattle.table.proofs.Tuples.Readable.{one-of-scored}
@@ -52,7 +53,7 @@ pub record Running (limit : ℕ) (k : Columns) (starts : List ℕ) (end R left s
   pub within : i ≤ end
   pub begins : start ≡ getD starts (highest R) 0
   pub x : Res
-  pub told : sum ≡ tallyOf limit x
+  pub tally : sum ≡ tallyOf limit x
   pub counted : Counted (x .1)
   pub left-over : scan sumKind (adds k end R left) R (partsOf k i) x ≡ sumCovers left R (partsOf k end)
 
@@ -68,9 +69,9 @@ module _ (limit : ℕ) (k : Columns) (starts : List ℕ) (end R left : ℕ) (s :
     within = le-refl end;
     begins = e;
     x = (0, none);
-    told = z;
+    tally = z;
     counted = tt;
-    left-over = sym (sumCovers-search left R (partsOf k end) fall (s .some) ∙ search-more sumKind left R (partsOf k end) two);
+    left-over = sym (sumCovers-search left R (partsOf k end) fall (s .nonzero) ∙ search-more sumKind left R (partsOf k end) two);
   }
     where
       fall : Descends (map cl (partsOf k end))
@@ -78,11 +79,11 @@ module _ (limit : ℕ) (k : Columns) (starts : List ℕ) (end R left : ℕ) (s :
 
   module _ (sum : Tally) (i : ℕ) (r : Run sum i) where
     pub running-ended : i ≤ start → sum ≡ tallyOf limit (sumCovers left R (partsOf k end))
-    running-ended h = r .told ∙ ap (tallyOf limit) (sym (scan-low sumKind f R (partsOf k i) (r .x) (s .some) low) ∙ r .left-over)
+    running-ended h = r .tally ∙ ap (tallyOf limit) (sym (scan-low sumKind f R (partsOf k i) (r .x) (s .nonzero) low) ∙ r .left-over)
       where
         low : (e : Entry Res) → Mem e (partsOf k i) → cl e < 2 ^ highest R
         low e m =
-            let q = mem-parts k i e m in
+            let q = mem-down (partAt k) i e m in
             let b = s .begins .each (highest R) (omega (arith, taxon-fits limit k starts end R s)) in
             omega (arith, ap cl (q .2), b .less (q .0) (omega (arith, q .1, r .begins)))
 
@@ -105,18 +106,18 @@ module _ (limit : ℕ) (k : Columns) (starts : List ℕ) (end R left : ℕ) (s :
         within = omega (arith, r .within);
         begins = r .begins;
         x = y;
-        told = q;
+        tally = q;
         counted = c;
         left-over = left-after y h;
       }
 
       pub running-outside : inside (getD (k .clusters) (i - 1) 0) R ≡ false → Run sum (i - 1)
       running-outside h =
-          after (r .x) sum (r .told) (r .counted) (scan-outside sumKind f R e (partsOf k (i - 1)) (r .x) (λ t. subst T h t))
+          after (r .x) sum (r .tally) (r .counted) (scan-outside sumKind f R e (partsOf k (i - 1)) (r .x) (λ t. subst T h t))
 
       pub running-unscored : getD (k .states) (i - 1) 0 ≢ 1 → Run sum (i - 1)
       running-unscored h =
-          after (r .x) sum (r .told) (r .counted)
+          after (r .x) sum (r .tally) (r .counted)
           (scan-unscored sumKind f R e (partsOf k (i - 1)) (r .x) (λ t. h (one-of-scored (getD (k .states) (i - 1) 0) t)))
 
       module _ (t : Tally) (a : Adds limit k end R left (i - 1) t) where
@@ -128,18 +129,18 @@ module _ (limit : ℕ) (k : Columns) (starts : List ℕ) (end R left : ℕ) (s :
             scan-added sumKind f R e (partsOf k (i - 1)) (r .x) (a .scored) (a .leads)
             ∙ ap (λ (y : Res). scan sumKind f R (partsOf k (i - 1)) (sumKind .plus (r .x) y)) (a .gains)
 
-        pub plus-asks : left ≤ 4 → (t .count ≤ limit) × (sum .tuples + t .tuples < wordValues)
+        pub plus-asks : left < degreeHigh → (t .count ≤ limit) × (sum .tuples + t .tuples < wordValues)
         plus-asks h =
-            let in-hand = ap (λ (v : Tally). v .tuples) (r .told) ∙ tally-tuples limit (r .x .0) (r .x .1) in
-            let onto = ap (λ (v : Tally). v .tuples) (a .told) ∙ tally-tuples limit (a .g .0) (a .g .1) in
+            let in-hand = ap (λ (v : Tally). v .tuples) (r .tally) ∙ tally-tuples limit (r .x .0) (r .x .1) in
+            let onto = ap (λ (v : Tally). v .tuples) (a .tally) ∙ tally-tuples limit (a .g .0) (a .g .1) in
             let whole = searched-few limit k starts end R s left h in
             let grown = subst (λ (v : Res). z .0 ≤ v .0) (left-after z more) (scan-grows f R (partsOf k (i - 1)) z) in
-            let count = subst (λ (v : Tally). v .count ≤ limit) (sym (a .told)) (tally-count-le limit (a .g)) in
+            let count = subst (λ (v : Tally). v .count ≤ limit) (sym (a .tally)) (tally-count-le limit (a .g)) in
             (count, omega (arith, in-hand, onto, whole, grown))
 
         pub running-added : (v : Tally) → v ≡ plusTally limit sum t → Run v (i - 1)
         running-added v d =
-            after z v (d ∙ ap₂ (plusTally limit) (r .told) (a .told) ∙ plus)
+            after z v (d ∙ ap₂ (plusTally limit) (r .tally) (a .tally) ∙ plus)
             (counted-plus (r .x .1) (a .g .1) (r .counted) (a .counted)) more
           where
             plus : plusTally limit (tallyOf limit (r .x)) (tallyOf limit (a .g)) ≡ tallyOf limit z

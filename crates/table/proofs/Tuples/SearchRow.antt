@@ -53,7 +53,7 @@ pub record Adds (limit : ℕ) (k : Columns) (end R left j : ℕ) (t : Tally) : T
   pub scored : T (sc (partAt k j))
   pub leads : T (leads (getD (k .clusters) j 0) R)
   pub g : Res
-  pub told : t ≡ tallyOf limit g
+  pub tally : t ≡ tallyOf limit g
   pub counted : Counted (g .1)
   pub gains : gain sumKind (left - 1) R (partsOf k end) (partAt k j) ≡ g
 
@@ -83,7 +83,7 @@ module _ (limit : ℕ) (k : Columns) (starts : List ℕ) (end R left : ℕ) (s :
       s .begins .each (highest R) (omega arith) .more j (h .reached) (omega (arith, h .place, s .within))
 
   is-led : T (leads c R)
-  is-led = leads-of-reach c R (s .some) is-inside reaches
+  is-led = leads-of-reach c R (s .nonzero) is-inside reaches
 
   own : Part cs b e
   own = part-keeps limit k cs end (s .readable .sound) b j (h .place) (rows-below limit k starts end R s j (h .place)) is-scored
@@ -99,7 +99,7 @@ module _ (limit : ℕ) (k : Columns) (starts : List ℕ) (end R left : ℕ) (s :
     scored = is-scored;
     leads = is-led;
     g = e .val;
-    told = p ∙ own-is;
+    tally = p ∙ own-is;
     counted = own-counted;
     gains = gain-whole sumKind (left - 1) R (partsOf k end) e (omega (arith, le-of-inside c R is-inside));
   }
@@ -117,7 +117,7 @@ module _ (limit : ℕ) (k : Columns) (starts : List ℕ) (end R left : ℕ) (s :
     other-pos = omega arith
 
     other-lt : other < 2 ^ highest R
-    other-lt = omega (arith, highest-gt R (s .some), reaches)
+    other-lt = omega (arith, highest-gt R (s .nonzero), reaches)
 
     lower : hi < highest R
     lower = go (decLt hi (highest R))
@@ -154,7 +154,7 @@ module _ (limit : ℕ) (k : Columns) (starts : List ℕ) (end R left : ℕ) (s :
       capped = s .capped;
       rising = s .rising;
       begins = s .begins;
-      some = other-pos;
+      nonzero = other-pos;
       small = omega (arith, s .small);
       run = below-mono (k .clusters) (s .rows) _ (2 ^ (hi + 1)) _ _ (pow-mono (omega (arith, is-highest)))
           (s .begins .each (highest other) (omega (arith, is-highest, next-place))) next-below;
@@ -181,13 +181,13 @@ module _ (limit : ℕ) (k : Columns) (starts : List ℕ) (end R left : ℕ) (s :
         ∙ ap (sumKind .times (e .val)) (sym (sumCovers-search (left - 1) other (partsOf k end) fall other-pos))
 
     module _ (one inner : Tally) (p : one ≡ partTally k j) (q : inner ≡ tallyOf limit (sumCovers (left - 1) other (partsOf k next))) where
-      inner-told : inner ≡ tallyOf limit y
-      inner-told = q ∙ ap (tallyOf limit) inner-is
+      inner-tally : inner ≡ tallyOf limit y
+      inner-tally = q ∙ ap (tallyOf limit) inner-is
 
       safe : Safe one inner
       safe =
           let short = s .readable .sound .short in
-          subst₂ Safe (sym (p ∙ own-is)) (sym inner-told)
+          subst₂ Safe (sym (p ∙ own-is)) (sym inner-tally)
           (part-safe cs b 1 0 c R (e .val .1) (y .1) short is-inside (own .keeps) y-keeps limit (y .0) (s .small))
 
       pub under-asks : SFits w64 (one .best +ℤ inner .best)
@@ -199,7 +199,7 @@ module _ (limit : ℕ) (k : Columns) (starts : List ℕ) (end R left : ℕ) (s :
         scored = is-scored;
         leads = is-led;
         g = sumKind .times (e .val) y;
-        told = d ∙ ap₂ (underTally limit) (p ∙ own-is) inner-told ∙ under;
+        tally = d ∙ ap₂ (underTally limit) (p ∙ own-is) inner-tally ∙ under;
         counted = keeps-counted cs b 1 R (timesSol (e .val .1) (y .1)) both;
         gains = gains-part;
       }

@@ -6,6 +6,7 @@ use Prim.Native.Nat.{ℕ, _<_}
 use denote.Ref.{now}
 use lib.ListN.{getD}
 use mir.Facts.{fits-lt-pow}
+use Rattle.laws.specs.Limits.{narrow}
 use Rattle.cluster.specs.Bytes.{byteValues}
 use Rattle.kept.specs.declared.table.Table.{Table}
 use Rattle.table.specs.Working.{againTable}
@@ -58,7 +59,7 @@ again-requires c κs =
 returns-3 : tie.Need-returns-3
 returns-3 c =
     let p = placed (c .before .before) in
-    let worked = c .again .ensures ∙ ap (λ (t : Table). againTable t 0) (c .before .arranged .ensures) in
+    let worked = c .again .ensures ∙ ap (λ (t : Table). againTable narrow t 0) (c .before .arranged .ensures) in
     made-accepted (start p .args .degree) (in-order (p .before)) (p .if2 .left) (bytes (read p)) (start p .pre)
     (c .again .result) worked
 

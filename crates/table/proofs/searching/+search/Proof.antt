@@ -204,7 +204,7 @@ module _ (t : ℕ) where
       let found = c .before .before in
       let s = reached found in
       let q = asked s in
-      (q .readable, (q .some, start-past _ (given s) _ _ _ q _ (start-is found)))
+      (q .readable, (q .nonzero, start-past _ (given s) _ _ _ q _ (start-is found)))
 
   loop-holds : search-lts.Need-loop-holds (claims t) (search-at t) search′.Post Inv μ
   loop-holds c =

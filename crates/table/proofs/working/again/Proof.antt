@@ -10,15 +10,16 @@ use lib.ListN.{getD}
 use mir.Facts.{toZ-ofZ}
 use mir.Syntax.{w32, w64}
 use mir.Val.{SFits}
+use Rattle.laws.specs.Limits.{narrow}
+use Rattle.laws.proofs.Width.{narrow-facts}
 use Rattle.table.specs.Searched.{columnsOf}
-use Rattle.table.specs.Tally.{fieldsTally}
-use Rattle.table.specs.Working.{workedRow}
-use Rattle.table.proofs.Rows.AgainLoop.{Partly, partly-start, partly-skip, partly-store, partly-end, ready-row, weight-fits}
+use Rattle.table.specs.Working.{workedTally}
+use Rattle.table.proofs.Rows.AgainLoop.{Partly, partly-start, partly-skip, partly-store, partly-end, ready-row, weight-at}
 use Rattle.table.proofs.working.again.Statement.{statement}
 use Rattle.table.proofs.working.again.Tie as tie
 
 abbrev Inv-loop : tie.InvT-loop
-Inv-loop cluster n degree t₀ starts i₀ t i = Partly t₀ cluster t i
+Inv-loop cluster n degree t₀ starts i₀ t i = Partly narrow t₀ cluster t i
 
 abbrev μ-loop : tie.MeasureT-loop
 μ-loop cluster n degree t₀ starts i₀ t i = n - i
@@ -40,11 +41,11 @@ row c =
 room : (c : tie.In-loop Inv-loop μ-loop) → c .before .loop .i < 128
 room c = omega (arith, c .loop-test .taken, start (c .before) .pre .capped)
 
-narrow : (c : tie.In-loop Inv-loop μ-loop) → SFits w32 (getD (c .before .loop .t .weights) (c .before .loop .i) (pos 0))
-narrow c =
+weight-fits : (c : tie.In-loop Inv-loop μ-loop) → SFits w32 (getD (c .before .loop .t .weights) (c .before .loop .i) (pos 0))
+weight-fits c =
     let at-loop = c .before in
     let s = start at-loop in
-    weight-fits (s .args .given) (s .args .cluster) (s .pre) (at-loop .loop .t) (at-loop .loop .i) (at-loop .loop .inv)
+    weight-at narrow narrow-facts (s .args .given) (s .args .cluster) (s .pre) (at-loop .loop .t) (at-loop .loop .i) (at-loop .loop .inv)
     (c .loop-test .taken)
 
 -- ---- needs
@@ -55,7 +56,7 @@ put-starts-requires c κs = (refl, c .before .before .before .before .pre .risin
 loop-holds : tie.Need-loop-holds Inv-loop μ-loop
 loop-holds c =
     let start = c .before .before .before .before .before in
-    partly-start (start .args .given) (start .args .cluster) (start .pre)
+    partly-start narrow narrow-facts (start .args .given) (start .args .cluster) (start .pre)
 
 mul-is-inside : tie.Need-mul-is-inside Inv-loop μ-loop
 mul-is-inside c = omega (arith, room c)
@@ -79,7 +80,7 @@ worked-requires c κs =
     let s = start at-loop in
     let t = at-loop .loop .t in
     let i = at-loop .loop .i in
-    rw (toZ-ofZ (narrow inside)) (ready-row (s .args .given) (s .args .cluster) (s .pre) t i (at-loop .loop .inv) _
+    rw (toZ-ofZ (weight-fits inside)) (ready-row narrow narrow-facts (s .args .given) (s .args .cluster) (s .pre) t i (at-loop .loop .inv) _
     (inside .loop-test .taken) (at-loop .before .put-starts .ensures))
 
 mul-t : tie.Need-mul-t Inv-loop μ-loop
@@ -131,13 +132,17 @@ loop-again c =
     let test = c .before .is-inside .ensures in
     ⊎-elim
     (λ w.
-    let best : SFits w64 (w .18 .result .best) = record { sfits = w .19 .given .1 .1 .1 .0 .1 } in
-    partly-store (s .args .given) (s .args .cluster) (s .pre) t i (at-loop .loop .inv) (w .18 .result) (inside .loop-test .taken)
-    (sym test ∙ w .0 .taken)
-    (w .18 .ensures ∙ ap (λ (z : ℤ). fieldsTally (workedRow (columnsOf t) z i (s .args .given .degree))) (toZ-ofZ (narrow inside)))
-    _ (toZ-ofZ best) (c .if1 .t) (w .20))
+    let call = w .18 in
+    let stored = w .20 in
+    -- what is known of the result's fields, in the order of the struct: past tuples, count and mark, the best weight
+    let from-best = w .19 .given .1 .1 .1 in
+    let best-fits : SFits w64 (call .result .best) = record { sfits = from-best .0 .1 } in
+    partly-store narrow narrow-facts (s .args .given) (s .args .cluster) (s .pre) t i (at-loop .loop .inv) (call .result) _
+    (at-loop .before .put-starts .ensures) (inside .loop-test .taken) (sym test ∙ w .0 .taken)
+    (call .ensures ∙ ap (λ (z : ℤ). workedTally narrow (columnsOf t) z i (s .args .given .degree)) (toZ-ofZ (weight-fits inside)))
+    _ (toZ-ofZ best-fits) (c .if1 .t) stored)
     (λ w.
-    partly-skip (s .args .given) (s .args .cluster) (s .pre) t (c .if1 .t) i (at-loop .loop .inv) (inside .loop-test .taken)
+    partly-skip narrow narrow-facts (s .args .given) (s .args .cluster) (s .pre) t (c .if1 .t) i (at-loop .loop .inv) (inside .loop-test .taken)
     (sym test ∙ w .0 .left) (w .1))
     (c .if1 .came)
 
@@ -145,7 +150,7 @@ returns : tie.Need-returns Inv-loop μ-loop
 returns c =
     let at-loop = c .before in
     let s = start at-loop in
-    partly-end (s .args .given) (s .args .cluster) (s .pre) (at-loop .loop .t) (at-loop .loop .i) (at-loop .loop .inv) (c .loop-test .left)
+    partly-end narrow narrow-facts (s .args .given) (s .args .cluster) (s .pre) (at-loop .loop .t) (at-loop .loop .i) (at-loop .loop .inv) (c .loop-test .left)
 
 pub again-spec : {M : Type 1} → statement M
 again-spec =

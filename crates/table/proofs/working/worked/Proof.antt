@@ -1,15 +1,17 @@
 -- `table::working::worked` meets its contract: an unscored row and a one-taxon row end at once, and any other is the row over what the
 -- search of its tuples adds up. Assumes nothing.
-use mathlib.Core.Path.{sym, ap, _∙_}
+use mathlib.Core.Path.{_≡_, sym, ap, _∙_}
 use native.Mathlib.Omega.{arith}
 use borrow.Author.Needs.{needs}
 use lib.IntN.{ℤ}
 use mir.Facts.{toZ-ofZ}
 use mir.Syntax.{w32}
 use mir.Val.{SFits}
+use Rattle.laws.specs.Limits.{narrow}
 use Rattle.table.specs.Searched.{Columns, columns}
 use Rattle.table.specs.Tally.{ownTally}
-use Rattle.table.proofs.Rows.WorkedRow.{searchable, worked-unscored, worked-single, worked-searched, under-fits}
+use Rattle.table.proofs.Rows.Ready.{searchable, under-fits, worked-unscored, worked-single, worked-searched}
+use Rattle.table.proofs.Tuples.Readable.{scored-of, unscored-of}
 use Rattle.table.proofs.working.worked.Statement.{statement}
 use Rattle.table.proofs.working.worked.Tie as tie
 
@@ -23,8 +25,15 @@ columnsAt s =
     columns (s .args .clusters .now) (s .args .states .now) (s .args .counts .now) (s .args .marks .now) (s .args .bests .now)
     (s .args .lows .now) (s .args .highs .now)
 
-narrow : (s : tie.Start) → SFits w32 (s .args .weight)
-narrow s = search needs
+weight-fits : (s : tie.Start) → SFits w32 (s .args .weight)
+weight-fits s = search needs
+
+-- the row itself, as the code has it: its weight by way of its bits
+own-is : (c : tie.After-own2)
+    → let s = start (c .before .before .before .before .before .before) in c .own2 .result ≡ ownTally 1 (s .args .weight) (s .args .i)
+own-is c =
+    let s = start (c .before .before .before .before .before .before) in
+    c .own2 .ensures ∙ ap (λ (z : ℤ). ownTally 1 z (s .args .i)) (toZ-ofZ (weight-fits s))
 
 -- ---- needs
 
@@ -32,7 +41,7 @@ returns : tie.Need-returns
 returns c =
     let s = start (c .before .before) in
     c .none .ensures
-    ∙ worked-unscored (columnsAt s) (s .args .starts .now) (s .args .weight) (s .args .i) (s .args .degree) (s .pre) (c .before .if1 .taken)
+    ∙ worked-unscored narrow (columnsAt s) (s .args .weight) (s .args .i) (s .args .degree) (unscored-of _ (c .before .if1 .taken))
 
 returns-2 : tie.Need-returns-2
 returns-2 c =
@@ -40,15 +49,15 @@ returns-2 c =
     let scored = single .before .before in
     let s = start (scored .before) in
     c .own .ensures
-    ∙ ap (λ (z : ℤ). ownTally 0 z (s .args .i)) (toZ-ofZ (narrow s))
-    ∙ worked-single (columnsAt s) (s .args .starts .now) (s .args .weight) (s .args .i) (s .args .degree) (s .pre) (scored .if1 .left)
+    ∙ ap (λ (z : ℤ). ownTally 0 z (s .args .i)) (toZ-ofZ (weight-fits s))
+    ∙ worked-single narrow (columnsAt s) (s .args .weight) (s .args .i) (s .args .degree) (scored-of _ (scored .if1 .left))
     (sym (single .is-single .ensures) ∙ c .before .if2 .taken)
 
 search-requires : tie.Need-search-requires
 search-requires c κs =
     let scored = c .before .before .before in
     let s = start (scored .before) in (
-      searchable (columnsAt s) (s .args .starts .now) (s .args .weight) (s .args .i) (s .args .degree) (s .pre),
+      searchable narrow (columnsAt s) (s .args .starts .now) (s .args .weight) (s .args .i) (s .args .degree) (s .pre),
       (omega (arith, s .pre .low), omega (arith, s .pre .high)),
     )
 
@@ -57,21 +66,19 @@ under-requires c κs =
     let found = c .before in
     let scored = found .before .before .before .before in
     let s = start (scored .before) in
-    under-fits (columnsAt s) (s .args .starts .now) (s .args .weight) (s .args .i) (s .args .degree) (s .pre) _ _
-    (c .own2 .ensures ∙ ap (λ (z : ℤ). ownTally 1 z (s .args .i)) (toZ-ofZ (narrow s))) (found .search .ensures)
+    under-fits narrow (columnsAt s) (s .args .starts .now) (s .args .weight) (s .args .i) (s .args .degree) (s .pre) _ _
+    (own-is c) (found .search .ensures)
 
 returns-3 : tie.Need-returns-3
 returns-3 c =
-    let own = c .before in
-    let found = own .before in
+    let found = c .before .before in
     let many = found .before in
     let single = many .before in
     let scored = single .before .before in
     let s = start (scored .before) in
-    worked-searched (columnsAt s) (s .args .starts .now) (s .args .weight) (s .args .i) (s .args .degree) (s .pre) _ _ _ (scored .if1 .left)
-    (sym (single .is-single .ensures) ∙ many .if2 .left)
-    (own .own2 .ensures ∙ ap (λ (z : ℤ). ownTally 1 z (s .args .i)) (toZ-ofZ (narrow s)))
-    (found .search .ensures) (c .under .ensures)
+    c .under .ensures
+    ∙ worked-searched narrow (columnsAt s) (s .args .weight) (s .args .i) (s .args .degree) (scored-of _ (scored .if1 .left))
+    (sym (single .is-single .ensures) ∙ many .if2 .left) _ _ (own-is (c .before)) (found .search .ensures)
 
 pub worked-spec : {M : Type 1} → statement M
 worked-spec =
