@@ -41,7 +41,8 @@ use Rattle.table.proofs.Tallies.Overflow.{Safe, part-clear, part-safe}
 use Rattle.table.proofs.Tuples.Readable.{LowWords, scored-of-one, readable-fewer, part-keeps, part-is}
 use Rattle.table.proofs.Tuples.Searchable.{topOf, taxon-fits, searched-fall, rows-below, searched-keep}
 
-pub record Led (k : Columns) (starts : List ℕ) (end R j : ℕ) : Type 0 where
+pub record Led (limit : ℕ) (k : Columns) (starts : List ℕ) (end R j : ℕ) : Type 0 where
+  pub asked : Searchable limit k starts end R
   pub place : j < end
   pub reached : getD starts (highest R) 0 ≤ j
   pub within : inside (getD (k .clusters) j 0) R ≡ true
@@ -57,8 +58,10 @@ pub record Adds (limit : ℕ) (k : Columns) (end R left j : ℕ) (t : Tally) : T
   pub counted : Counted (g .1)
   pub gains : gain sumKind (left - 1) R (partsOf k end) (partAt k j) ≡ g
 
-module _ (limit : ℕ) (k : Columns) (starts : List ℕ) (end R left : ℕ) (s : Searchable limit k starts end R) (j : ℕ)
-    (h : Led k starts end R j) where
+module _ {limit : ℕ} {k : Columns} {starts : List ℕ} {end R j : ℕ} (left : ℕ) (h : Led limit k starts end R j) where
+  abbrev s : Searchable limit k starts end R
+  s = h .asked
+
   abbrev c : ℕ
   c = getD (k .clusters) j 0
 
@@ -79,14 +82,14 @@ module _ (limit : ℕ) (k : Columns) (starts : List ℕ) (end R left : ℕ) (s :
 
   reaches : 2 ^ highest R ≤ c
   reaches =
-      let small = taxon-fits limit k starts end R s in
+      let small = taxon-fits s in
       s .begins .each (highest R) (omega arith) .more j (h .reached) (omega (arith, h .place, s .within))
 
   is-led : T (leads c R)
   is-led = leads-of-reach c R (s .nonzero) is-inside reaches
 
   own : Part cs b e
-  own = part-keeps limit k cs end (s .readable .sound) b j (h .place) (rows-below limit k starts end R s j (h .place)) is-scored
+  own = part-keeps limit k cs end (s .readable .sound) b j (h .place) (rows-below s j (h .place)) is-scored
 
   own-is : partTally k j ≡ tallyOf limit (e .val)
   own-is = part-is limit k cs end (s .readable .sound) (h .words) j (h .place) is-scored
@@ -94,8 +97,8 @@ module _ (limit : ℕ) (k : Columns) (starts : List ℕ) (end R left : ℕ) (s :
   own-counted : Counted (e .val .1)
   own-counted = keeps-counted cs b 1 c (e .val .1) (own .keeps)
 
-  pub whole-adds : (one : Tally) → one ≡ partTally k j → R - c ≡ 0 → Adds limit k end R left j one
-  whole-adds one p z = record {
+  pub whole-adds : {one : Tally} → one ≡ partTally k j → R - c ≡ 0 → Adds limit k end R left j one
+  whole-adds p z = record {
     scored = is-scored;
     leads = is-led;
     g = e .val;
@@ -106,7 +109,7 @@ module _ (limit : ℕ) (k : Columns) (starts : List ℕ) (end R left : ℕ) (s :
 
   -- ---- a part, which leaves something; hi is the highest taxon of that
 
-  module _ (some-left : R - c ≢ 0) (hi : ℕ) (is-highest : hi ≡ highest (R - c)) where
+  module _ (some-left : R - c ≢ 0) {hi : ℕ} (is-highest : hi ≡ highest (R - c)) where
     abbrev other : ℕ
     other = R - c
 
@@ -129,7 +132,7 @@ module _ (limit : ℕ) (k : Columns) (starts : List ℕ) (end R left : ℕ) (s :
             absurd (omega (arith, highest-le other other-pos, other-lt, ap (λ (t : ℕ). 2 ^ t) is-highest))
 
     pub next-place : hi + 1 < 65
-    next-place = omega (arith, lower, taxon-fits limit k starts end R s)
+    next-place = omega (arith, lower, taxon-fits s)
 
     next-below : Below (k .clusters) (s .rows) (2 ^ (hi + 1)) next
     next-below = s .begins .each (hi + 1) (omega (arith, next-place))
@@ -172,15 +175,15 @@ module _ (limit : ℕ) (k : Columns) (starts : List ℕ) (end R left : ℕ) (s :
         (λ i l m. omega (arith, next-gt, next-below .more i l (omega (arith, s .within)))))
 
     y-keeps : Keeps cs b 0 other (y .1)
-    y-keeps = sumCovers-keeps cs b (partsOf k end) (searched-keep limit k starts end R s) (left - 1) other
+    y-keeps = sumCovers-keeps cs b (partsOf k end) (searched-keep s) (left - 1) other
 
     gains-part : gain sumKind (left - 1) R (partsOf k end) e ≡ sumKind .times (e .val) y
     gains-part =
-        let fall = searched-fall limit k starts end R s in
+        let fall = searched-fall s in
         gain-part sumKind (left - 1) R (partsOf k end) e (omega arith)
         ∙ ap (sumKind .times (e .val)) (sym (sumCovers-search (left - 1) other (partsOf k end) fall other-pos))
 
-    module _ (one inner : Tally) (p : one ≡ partTally k j) (q : inner ≡ tallyOf limit (sumCovers (left - 1) other (partsOf k next))) where
+    module _ {one inner : Tally} (p : one ≡ partTally k j) (q : inner ≡ tallyOf limit (sumCovers (left - 1) other (partsOf k next))) where
       inner-tally : inner ≡ tallyOf limit y
       inner-tally = q ∙ ap (tallyOf limit) inner-is
 
@@ -194,8 +197,8 @@ module _ (limit : ℕ) (k : Columns) (starts : List ℕ) (end R left : ℕ) (s :
           × ((one .low + inner .low < wordValues) × (one .high + inner .high < wordValues))
       under-asks = (safe .best, (safe .low, safe .high))
 
-      pub part-adds : (u : Tally) → u ≡ underTally limit one inner → Adds limit k end R left j u
-      part-adds u d = record {
+      pub part-adds : {u : Tally} → u ≡ underTally limit one inner → Adds limit k end R left j u
+      part-adds d = record {
         scored = is-scored;
         leads = is-led;
         g = sumKind .times (e .val) y;

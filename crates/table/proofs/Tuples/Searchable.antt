@@ -29,7 +29,7 @@ use Rattle.table.proofs.Tuples.Readable.{parts-fall, parts-keep}
 abbrev pub topOf : ℕ → ℕ
 topOf R = 2 ^ suc (highest R)
 
-module _ (limit : ℕ) (k : Columns) (starts : List ℕ) (end R : ℕ) (s : Searchable limit k starts end R) where
+module _ {limit : ℕ} {k : Columns} {starts : List ℕ} {end R : ℕ} (s : Searchable limit k starts end R) where
   pub taxon-fits : highest R < 64
   taxon-fits = highest-lt 64 R (s .nonzero) (s .small)
 
