@@ -11,5 +11,6 @@ pub mod Ready
 pub mod WorkedRow
 -- the rows of a table that may be worked out, and those that are
 pub mod Workable
--- the loop over the rows
+-- the loop over the rows, one turn and the whole
+pub mod AgainRow
 pub mod AgainLoop

@@ -4,7 +4,7 @@
 --     cluster-word, weight-fits   a cluster is a word, and a weight a number of 32 bits
 --     again-fit-below, again-over-below     the first rows, worked out again, are fit, and the next row may be worked out over them
 -- Assumes nothing.
-use mathlib.Core.Path.{_≡_, sym, _∙_, subst}
+use mathlib.Core.Path.{sym, _∙_, subst}
 use mathlib.Core.Logic.{_≢_}
 use mathlib.Core.Bool.{false}
 use mathlib.Core.List.{List}

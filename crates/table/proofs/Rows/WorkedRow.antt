@@ -9,7 +9,7 @@ use mathlib.Core.Bool.{Bool, true, false, not, cond, _&&_}
 use mathlib.Core.Option.{Option, some}
 use mathlib.Core.List.{List, [], _∷_, map}
 use mathlib.Core.List.{List·Memᴰ as Mem}
-use Prim.Native.Nat.{ℕ, zero, suc, _+_, _-_, _≤_}
+use Prim.Native.Nat.{ℕ, zero, suc, _-_, _≤_}
 use native.Mathlib.Nat.{pos-of-ne-zero}
 use native.Mathlib.Numerals.{one-add}
 use lib.Dec.{T}
@@ -40,7 +40,7 @@ use Rattle.table.specs.Tally.{tallyOf, fieldsTally, noTally, ownTally, u
 use Rattle.table.specs.Working.{foundTally, workedTally, Ready}
 use Rattle.table.proofs.Fitting.KeepsFit.{decode, Over, worked-is}
 use Rattle.table.proofs.Fitting.Rooted.{mine}
-use Rattle.table.proofs.Rows.Ready.{own-encoded, foundRes, under-is}
+use Rattle.table.proofs.Rows.Ready.{own-encoded, under-is}
 use Rattle.table.proofs.Tallies.Decoded.{tally-encode}
 
 -- ---- the rows beneath, as the search reads them and as what they stand for

@@ -14,7 +14,8 @@ use Rattle.laws.specs.Limits.{narrow}
 use Rattle.laws.proofs.Width.{narrow-facts}
 use Rattle.table.specs.Searched.{columnsOf}
 use Rattle.table.specs.Working.{workedTally}
-use Rattle.table.proofs.Rows.AgainLoop.{Partly, partly-start, partly-skip, partly-store, partly-end, ready-row, weight-at}
+use Rattle.table.proofs.Rows.AgainRow.{Partly, ready-row, weight-at}
+use Rattle.table.proofs.Rows.AgainLoop.{partly-start, partly-skip, partly-store, partly-end}
 use Rattle.table.proofs.working.again.Statement.{statement}
 use Rattle.table.proofs.working.again.Tie as tie
 
@@ -48,30 +49,15 @@ weight-fits c =
     weight-at narrow narrow-facts (s .args .given) (s .args .cluster) (s .pre) (at-loop .loop .t) (at-loop .loop .i) (at-loop .loop .inv)
     (c .loop-test .taken)
 
--- ---- needs
+stored-room : (c : tie.After-struct-told Inv-loop μ-loop) → in-loop (row (c .before .before)) .before .loop .i < 128
+stored-room c = room (in-loop (row (c .before .before)))
 
-put-starts-requires : tie.Need-put-starts-requires Inv-loop μ-loop
-put-starts-requires c κs = (refl, c .before .before .before .before .pre .rising)
+-- ---- needs
 
 loop-holds : tie.Need-loop-holds Inv-loop μ-loop
 loop-holds c =
     let start = c .before .before .before .before .before in
     partly-start narrow narrow-facts (start .args .given) (start .args .cluster) (start .pre)
-
-mul-is-inside : tie.Need-mul-is-inside Inv-loop μ-loop
-mul-is-inside c = omega (arith, room c)
-
-element-copy-out-is-inside : tie.Need-element-copy-out-is-inside Inv-loop μ-loop
-element-copy-out-is-inside c = room c
-
-is-inside-requires : tie.Need-is-inside-requires Inv-loop μ-loop
-is-inside-requires c κs = tt
-
-mul-weight : tie.Need-mul-weight Inv-loop μ-loop
-mul-weight c = omega (arith, room (in-loop c))
-
-element-copy-out-weight : tie.Need-element-copy-out-weight Inv-loop μ-loop
-element-copy-out-weight c = room (in-loop c)
 
 worked-requires : tie.Need-worked-requires Inv-loop μ-loop
 worked-requires c κs =
@@ -82,45 +68,6 @@ worked-requires c κs =
     let i = at-loop .loop .i in
     rw (toZ-ofZ (weight-fits inside)) (ready-row narrow narrow-facts (s .args .given) (s .args .cluster) (s .pre) t i (at-loop .loop .inv) _
     (inside .loop-test .taken) (at-loop .before .put-starts .ensures))
-
-mul-t : tie.Need-mul-t Inv-loop μ-loop
-mul-t c = omega (arith, room (in-loop (row (c .before .before))))
-
-element-write-t : tie.Need-element-write-t Inv-loop μ-loop
-element-write-t c = room (in-loop (row (c .before .before)))
-
-mul-t-2 : tie.Need-mul-t-2 Inv-loop μ-loop
-mul-t-2 c = omega (arith, room (in-loop (row (c .before .before))))
-
-element-write-t-2 : tie.Need-element-write-t-2 Inv-loop μ-loop
-element-write-t-2 c = room (in-loop (row (c .before .before)))
-
-element-write-t-3 : tie.Need-element-write-t-3 Inv-loop μ-loop
-element-write-t-3 c = room (in-loop (row (c .before .before)))
-
-mul-best : tie.Need-mul-best Inv-loop μ-loop
-mul-best c = omega (arith, room (in-loop (row (c .before .before))))
-
-element-set-from-best : tie.Need-element-set-from-best Inv-loop μ-loop
-element-set-from-best c = room (in-loop (row (c .before .before)))
-
-mul-t-3 : tie.Need-mul-t-3 Inv-loop μ-loop
-mul-t-3 c = omega (arith, room (in-loop (row (c .before .before))))
-
-element-write-t-4 : tie.Need-element-write-t-4 Inv-loop μ-loop
-element-write-t-4 c = room (in-loop (row (c .before .before)))
-
-mul-t-4 : tie.Need-mul-t-4 Inv-loop μ-loop
-mul-t-4 c = omega (arith, room (in-loop (row (c .before .before))))
-
-element-write-t-5 : tie.Need-element-write-t-5 Inv-loop μ-loop
-element-write-t-5 c = room (in-loop (row (c .before .before)))
-
-add-i : tie.Need-add-i Inv-loop μ-loop
-add-i c = omega (arith, room (c .before .before .before))
-
-loop-less : tie.Need-loop-less Inv-loop μ-loop
-loop-less c = let inside = c .before .before .before in omega (arith, inside .loop-test .taken)
 
 loop-again : tie.Need-loop-again Inv-loop μ-loop
 loop-again c =
@@ -158,27 +105,27 @@ again-spec =
     (tie.spec
     Inv-loop
     μ-loop
-    put-starts-requires
+    (λ c κs. (refl, c .before .before .before .before .pre .rising))
     loop-holds
-    mul-is-inside
-    element-copy-out-is-inside
-    is-inside-requires
-    mul-weight
-    element-copy-out-weight
+    (λ c. omega (arith, room c))
+    (λ c. room c)
+    (λ c κs. search needs)
+    (λ c. omega (arith, room (in-loop c)))
+    (λ c. room (in-loop c))
     (λ c. search needs)
     worked-requires
-    mul-t
-    element-write-t
-    mul-t-2
-    element-write-t-2
-    element-write-t-3
-    mul-best
-    element-set-from-best
-    mul-t-3
-    element-write-t-4
-    mul-t-4
-    element-write-t-5
-    add-i
-    loop-less
+    (λ c. omega (arith, stored-room c))
+    stored-room
+    (λ c. omega (arith, stored-room c))
+    stored-room
+    stored-room
+    (λ c. omega (arith, stored-room c))
+    stored-room
+    (λ c. omega (arith, stored-room c))
+    stored-room
+    (λ c. omega (arith, stored-room c))
+    stored-room
+    (λ c. omega (arith, room (c .before .before .before)))
+    (λ c. let inside = c .before .before .before in omega (arith, inside .loop-test .taken))
     loop-again
     returns)
