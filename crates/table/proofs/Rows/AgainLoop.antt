@@ -1,5 +1,5 @@
--- The row loop of `again` (`src/working.rt`): how it begins, goes on and ends, with every row worked out again. What holds after each row is
--- `Partly` of `AgainRow.antt`.
+-- The row loop of `again` (`src/working.rt`): how it begins, goes on and ends, with every row worked out again. What holds after each
+-- row is `Partly` of `AgainRow.antt`.
 --     storedWith t i r z      the results r in row i, with the best weight z
 --     partly-start, partly-skip, partly-store, partly-end
 -- Assumes nothing.
@@ -51,7 +51,7 @@ storedWith t i r z =
 
 -- ---- how the loop begins, and a row that stays
 
-module _ (W : Width) (facts : WidthFacts W) (given : Table) (c : ℕ) (w : Workable W given c) where
+module _ {W : Width} (facts : WidthFacts W) {given : Table} {c : ℕ} (w : Workable W given c) where
   abbrev d : ℕ
   d = given .degree
 
@@ -75,9 +75,9 @@ module _ (W : Width) (facts : WidthFacts W) (given : Table) (c : ℕ) (w : Worka
     words = w .words;
   }
 
-  pub partly-skip : (t t′ : Table) (i : ℕ) → Partly W given c t i → i < given .rows → inside c (getD (t .clusters) i 0) ≡ false → t′ ≡ t
+  pub partly-skip : {t t′ : Table} {i : ℕ} → Partly W given c t i → i < given .rows → inside c (getD (t .clusters) i 0) ≡ false → t′ ≡ t
       → Partly W given c t′ (i + 1)
-  partly-skip t t′ i p h b e = subst (λ (x : Table). Partly W given c x (i + 1)) (sym e) (record {
+  partly-skip {t} {t′} {i} p h b e = subst (λ (x : Table). Partly W given c x (i + 1)) (sym e) (record {
     within = omega arith;
     degree = p .degree;
     rows = p .rows;
@@ -96,22 +96,22 @@ module _ (W : Width) (facts : WidthFacts W) (given : Table) (c : ℕ) (w : Worka
       passed : entryAt given i ∷ again F c (entriesOf given i) ≡ again F c (entriesOf given (suc i))
       passed = ap (λ (x : Bool). againIf F x (entryAt given i) (again F c (entriesOf given i))) (sym out)
 
-  module _ (t : Table) (i : ℕ) (p : Partly W given c t i) where
+  module _ {t : Table} {i : ℕ} (p : Partly W given c t i) where
     room : given .rows ≤ rowCap
     room = omega (arith, w .capped, facts .rows)
 
     -- ---- row i worked out and stored
 
-    module _ (r : Tally) (starts : List ℕ) (begins : Starts (given .clusters) (given .rows) starts) (h : i < given .rows)
+    module _ {r : Tally} {starts : List ℕ} (begins : Starts (given .clusters) (given .rows) starts) (h : i < given .rows)
         (b : inside c (getD (t .clusters) i 0) ≡ true)
         (e : r ≡ workedTally W (columnsOf t) (getD (t .weights) i (pos 0)) i (given .degree)) where
       row-is : r ≡ fieldsTally (F (rowAt given i) (again F c (entriesOf given i)))
-      row-is = e ∙ row-again W facts given c w t i p starts h begins
+      row-is = e ∙ row-again facts w p starts h begins
 
       stored-row : entryAt (stored t i r) i ≡ record { row = rowAt given i; val = F (rowAt given i) (again F c (entriesOf given i)) }
       stored-row =
           stored-same t i r (p .sized) (omega (arith, room))
-          ∙ ap₂ (λ (x : Row) (v : Result). record { row = x; val = v }) (same-row W facts given c w t i p) (ap resultIn row-is ∙ result-back _)
+          ∙ ap₂ (λ (x : Row) (v : Result). record { row = x; val = v }) (same-row facts w p) (ap resultIn row-is ∙ result-back _)
 
       stored-done : entriesOf (stored t i r) (suc i) ≡ again F c (entriesOf given (suc i))
       stored-done =
@@ -139,8 +139,8 @@ module _ (W : Width) (facts : WidthFacts W) (given : Table) (c : ℕ) (w : Worka
       }
 
       -- the code's store of the best weight goes by its bits
-      pub partly-store : (z : ℤ) → z ≡ r .best → (t′ : Table) → t′ ≡ storedWith t i r z → Partly W given c t′ (i + 1)
-      partly-store z q t′ x = subst (λ (y : Table). Partly W given c y (i + 1)) (sym (x ∙ ap (storedWith t i r) q)) stored-partly
+      pub partly-store : {z : ℤ} → z ≡ r .best → {t′ : Table} → t′ ≡ storedWith t i r z → Partly W given c t′ (i + 1)
+      partly-store q x = subst (λ (y : Table). Partly W given c y (i + 1)) (sym (x ∙ ap (storedWith t i r) q)) stored-partly
 
     -- ---- all rows passed
 

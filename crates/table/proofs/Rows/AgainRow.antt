@@ -49,7 +49,7 @@ pub record Partly (W : Width) (given : Table) (c : ℕ) (t : Table) (i : ℕ) : 
   pub left : (j : ℕ) → i ≤ j → entryAt t j ≡ entryAt given j
   pub words : (j : ℕ) → j < given .rows → getD (t .«members_low») j 0 < wordValues
 
-module _ (W : Width) (facts : WidthFacts W) (given : Table) (c : ℕ) (w : Workable W given c) where
+module _ {W : Width} (facts : WidthFacts W) {given : Table} {c : ℕ} (w : Workable W given c) where
   abbrev d : ℕ
   d = given .degree
 
@@ -59,7 +59,7 @@ module _ (W : Width) (facts : WidthFacts W) (given : Table) (c : ℕ) (w : Worka
   abbrev F : Row → List (Entry Result) → Result
   F = workedOut W (given .degree) (tableClusters given)
 
-  module _ (t : Table) (i : ℕ) (p : Partly W given c t i) where
+  module _ {t : Table} {i : ℕ} (p : Partly W given c t i) where
     -- what is known of the given clusters is known of those of t
     clusters-same : (P : List ℕ → Type 0) → P (given .clusters) → P (t .clusters)
     clusters-same P h = subst P (sym (p .clusters)) h
@@ -72,8 +72,8 @@ module _ (W : Width) (facts : WidthFacts W) (given : Table) (c : ℕ) (w : Worka
       one = facts .counts;
       small = facts .word;
       short = omega (arith, length-clustersDown (t .clusters) (given .rows), room);
-      falls = clusters-same (λ (l : List ℕ). Falling (clustersDown l (given .rows))) (given-falls W facts given c w (given .rows) (omega arith));
-      full = clusters-same (λ (l : List ℕ). (x : ℕ) → Mem x (clustersDown l (given .rows)) → x ≢ 0) (given-full W facts given c w);
+      falls = clusters-same (λ (l : List ℕ). Falling (clustersDown l (given .rows))) (given-falls facts w (given .rows) (omega arith));
+      full = clusters-same (λ (l : List ℕ). (x : ℕ) → Mem x (clustersDown l (given .rows)) → x ≢ 0) (given-full facts w);
       rising = record {
         long = omega (arith, p .sized .clusters, room);
         up = λ a b x y. clusters-same (λ (l : List ℕ). getD l a 0 < getD l b 0) (w .rising .up a b x (omega arith));
@@ -89,7 +89,7 @@ module _ (W : Width) (facts : WidthFacts W) (given : Table) (c : ℕ) (w : Worka
         good : (j : ℕ) → j < i → goodAt j (given .clusters)
         good j l =
             let row = subst (Mem (entryAt t j)) (p .done) (mem-entries t i j l) in
-            let g = good-of-fit W cs (entryAt t j) (again-fit-below W facts given c w i (p .within) (entryAt t j) row) in
+            let g = good-of-fit W cs (entryAt t j) (again-fit-below facts w i (p .within) (entryAt t j) row) in
             record { counted = g .counted; marked = g .marked; bounded = g .bounded }
 
     pub ready-row : (starts : List ℕ) → i < given .rows → Starts (given .clusters) (given .rows) starts
@@ -111,14 +111,14 @@ module _ (W : Width) (facts : WidthFacts W) (given : Table) (c : ℕ) (w : Worka
       rising = clusters-same (λ (l : List ℕ). Rising l (given .rows)) (w .rising);
       begins = clusters-same (λ (l : List ℕ). Starts l (given .rows) starts) s;
       nonzero = clusters-same (λ (l : List ℕ). 0 < getD l i 0) (cluster-pos W (rowAt given i) (w .rules i h));
-      small = clusters-same (λ (l : List ℕ). getD l i 0 < wordValues) (cluster-word W facts given c w i h);
+      small = clusters-same (λ (l : List ℕ). getD l i 0 < wordValues) (cluster-word facts w i h);
       low = w .low;
       high = w .high;
-      light = subst (λ (l : List ℤ). natAbs (getD l i (pos 0)) ≤ weightMax) (sym (p .weights)) (given-rules W facts given c w i h .1 .in-range);
+      light = subst (λ (l : List ℤ). natAbs (getD l i (pos 0)) ≤ weightMax) (sym (p .weights)) (given-rules facts w i h .1 .in-range);
     }
 
     pub weight-at : i < given .rows → SFits w32 (getD (t .weights) i (pos 0))
-    weight-at h = subst (λ (l : List ℤ). SFits w32 (getD l i (pos 0))) (sym (p .weights)) (weight-fits W facts given c w i h)
+    weight-at h = subst (λ (l : List ℤ). SFits w32 (getD l i (pos 0))) (sym (p .weights)) (weight-fits facts w i h)
 
     -- ---- row i worked out and stored
 
@@ -139,4 +139,4 @@ module _ (W : Width) (facts : WidthFacts W) (given : Table) (c : ℕ) (w : Worka
         over =
             clusters-same (λ (l : List ℕ). Over (W .countMax) (clustersDown l (given .rows)) (rowAt t i) (entriesOf t i))
             (subst (λ (r : Row). Over (W .countMax) cs r (entriesOf t i)) (sym same-row)
-            (subst (Over (W .countMax) cs (rowAt given i)) (sym (p .done)) (again-over-below W facts given c w i h)))
+            (subst (Over (W .countMax) cs (rowAt given i)) (sym (p .done)) (again-over-below facts w i h)))

@@ -40,7 +40,7 @@ use Rattle.table.proofs.Tallies.Overflow.{Safe, Words, words-fit, light
 use Rattle.table.proofs.Tuples.Readable.{long-fewer, parts-keep}
 use Rattle.table.proofs.Tuples.Searched.{below-le}
 
-module _ (W : Width) (k : Columns) (starts : List ℕ) (z : ℤ) (i d : ℕ) (R : Ready W k starts z i d) where
+module _ {W : Width} {k : Columns} {starts : List ℕ} {z : ℤ} {i d : ℕ} (R : Ready W k starts z i d) where
   abbrev C : ℕ
   C = getD (k .clusters) i 0
 
@@ -131,9 +131,9 @@ module _ (W : Width) (k : Columns) (starts : List ℕ) (z : ℤ) (i d : ℕ) (R 
       light none g = omega (arith, R .light, size-pos C (λ e. omega (arith, R .nonzero)))
       light (some x) g = omega (arith, R .light, g .light, size-pos C (λ e. omega (arith, R .nonzero)))
 
-  pub under-fits : (o f : Tally) → o ≡ ownTally 1 z i → f ≡ foundTally W k i d
+  pub under-fits : {o f : Tally} → o ≡ ownTally 1 z i → f ≡ foundTally W k i d
       → SFits w64 (o .best +ℤ f .best) × ((o .low + f .low < wordValues) × (o .high + f .high < wordValues))
-  under-fits o f p q =
+  under-fits p q =
       let safe = subst₂ Safe (sym (p ∙ own-encoded 1)) (sym q) own-safe in
       (safe .best, (safe .low, safe .high))
 
@@ -150,6 +150,6 @@ module _ (W : Width) (k : Columns) (z : ℤ) (i d : ℕ) where
     pub worked-single : single (getD (k .clusters) i 0) ≡ true → ownTally 0 z i ≡ workedTally W k z i d
     worked-single f = ap₂ by (sym e) (sym f)
 
-    pub worked-searched : single (getD (k .clusters) i 0) ≡ false → (o f : Tally) → o ≡ ownTally 1 z i → f ≡ foundTally W k i d
+    pub worked-searched : single (getD (k .clusters) i 0) ≡ false → {o f : Tally} → o ≡ ownTally 1 z i → f ≡ foundTally W k i d
         → underTally (W .countMax) o f ≡ workedTally W k z i d
-    worked-searched b o f p q = ap₂ (underTally (W .countMax)) p q ∙ ap₂ by (sym e) (sym b)
+    worked-searched b p q = ap₂ (underTally (W .countMax)) p q ∙ ap₂ by (sym e) (sym b)

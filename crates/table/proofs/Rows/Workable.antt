@@ -38,7 +38,7 @@ use Rattle.table.specs.Working.{tableClusters, Workable}
 use Rattle.table.proofs.Fitting.AgainFit.{again-fit, again-over, Listed}
 use Rattle.table.proofs.Fitting.KeepsFit.{Over}
 
-module _ (W : Width) (facts : WidthFacts W) (given : Table) (c : ℕ) (w : Workable W given c) where
+module _ {W : Width} (facts : WidthFacts W) {given : Table} {c : ℕ} (w : Workable W given c) where
   abbrev d : ℕ
   d = given .degree
 

@@ -157,9 +157,9 @@ module _ (W : Width) (t : Table) (starts : List ℕ) (i d : ℕ) (R : Ready W (c
 
       go : (s b : Bool) → code s b ≡ rowTally W (R .sound .one) d cs r (entriesOf t i) o s b
       go false b = refl
-      go true true = own-encoded W k starts (r .weight) i d R 0
+      go true true = own-encoded R 0
       go true false =
-          under-is W k starts (r .weight) i d R
+          under-is R
           ∙ ap (λ (x : Res). tallyOf limit (x .0, timesSol (some (mine cs (r .cluster) (r .weight))) (x .1)))
           (ap (sumCovers (d - 1) (r .cluster)) (parts-are t i) ∙ covers-are W (R .sound .one) d cs r (entriesOf t i) o)
           ∙ sym (joined-tally W (R .sound .one) d cs r (entriesOf t i) o)

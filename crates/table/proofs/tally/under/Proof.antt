@@ -16,4 +16,7 @@ returns-2 c =
     underTally-live _ _ _ _ _ (counted .capped-product .ensures) (c .before .before .before .before .joint .ensures) (lives .if1 .left)
 
 pub under-spec : {M : Type 1} → statement M
-under-spec = tie.close (tie.spec (λ c κs. search needs) (λ c κs. search needs) returns (λ c κs. search needs) (λ c. search needs) (λ c. search needs) returns-2)
+under-spec =
+    tie.close
+    (tie.spec (λ c κs. search needs) (λ c κs. search needs) returns (λ c κs. search needs) (λ c. search needs) (λ c. search needs)
+    returns-2)

@@ -46,8 +46,7 @@ weight-fits : (c : tie.In-loop Inv-loop μ-loop) → SFits w32 (getD (c .before 
 weight-fits c =
     let at-loop = c .before in
     let s = start at-loop in
-    weight-at narrow narrow-facts (s .args .given) (s .args .cluster) (s .pre) (at-loop .loop .t) (at-loop .loop .i) (at-loop .loop .inv)
-    (c .loop-test .taken)
+    weight-at narrow-facts (s .pre) (at-loop .loop .inv) (c .loop-test .taken)
 
 stored-room : (c : tie.After-struct-told Inv-loop μ-loop) → in-loop (row (c .before .before)) .before .loop .i < 128
 stored-room c = room (in-loop (row (c .before .before)))
@@ -57,7 +56,7 @@ stored-room c = room (in-loop (row (c .before .before)))
 loop-holds : tie.Need-loop-holds Inv-loop μ-loop
 loop-holds c =
     let start = c .before .before .before .before .before in
-    partly-start narrow narrow-facts (start .args .given) (start .args .cluster) (start .pre)
+    partly-start narrow-facts (start .pre)
 
 worked-requires : tie.Need-worked-requires Inv-loop μ-loop
 worked-requires c κs =
@@ -66,7 +65,7 @@ worked-requires c κs =
     let s = start at-loop in
     let t = at-loop .loop .t in
     let i = at-loop .loop .i in
-    rw (toZ-ofZ (weight-fits inside)) (ready-row narrow narrow-facts (s .args .given) (s .args .cluster) (s .pre) t i (at-loop .loop .inv) _
+    rw (toZ-ofZ (weight-fits inside)) (ready-row narrow-facts (s .pre) (at-loop .loop .inv) _
     (inside .loop-test .taken) (at-loop .before .put-starts .ensures))
 
 loop-again : tie.Need-loop-again Inv-loop μ-loop
@@ -84,20 +83,18 @@ loop-again c =
     -- what is known of the result's fields, in the order of the struct: past tuples, count and mark, the best weight
     let from-best = w .19 .given .1 .1 .1 in
     let best-fits : SFits w64 (call .result .best) = record { sfits = from-best .0 .1 } in
-    partly-store narrow narrow-facts (s .args .given) (s .args .cluster) (s .pre) t i (at-loop .loop .inv) (call .result) _
-    (at-loop .before .put-starts .ensures) (inside .loop-test .taken) (sym test ∙ w .0 .taken)
+    partly-store narrow-facts (s .pre) (at-loop .loop .inv) (at-loop .before .put-starts .ensures) (inside .loop-test .taken) (sym test ∙ w .0 .taken)
     (call .ensures ∙ ap (λ (z : ℤ). workedTally narrow (columnsOf t) z i (s .args .given .degree)) (toZ-ofZ (weight-fits inside)))
-    _ (toZ-ofZ best-fits) (c .if1 .t) stored)
+    (toZ-ofZ best-fits) stored)
     (λ w.
-    partly-skip narrow narrow-facts (s .args .given) (s .args .cluster) (s .pre) t (c .if1 .t) i (at-loop .loop .inv) (inside .loop-test .taken)
-    (sym test ∙ w .0 .left) (w .1))
+    partly-skip narrow-facts (s .pre) (at-loop .loop .inv) (inside .loop-test .taken) (sym test ∙ w .0 .left) (w .1))
     (c .if1 .came)
 
 returns : tie.Need-returns Inv-loop μ-loop
 returns c =
     let at-loop = c .before in
     let s = start at-loop in
-    partly-end narrow narrow-facts (s .args .given) (s .args .cluster) (s .pre) (at-loop .loop .t) (at-loop .loop .i) (at-loop .loop .inv) (c .loop-test .left)
+    partly-end narrow-facts (s .pre) (at-loop .loop .inv) (c .loop-test .left)
 
 pub again-spec : {M : Type 1} → statement M
 again-spec =

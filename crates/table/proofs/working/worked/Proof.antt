@@ -57,7 +57,7 @@ search-requires : tie.Need-search-requires
 search-requires c κs =
     let scored = c .before .before .before in
     let s = start (scored .before) in (
-      searchable narrow (columnsAt s) (s .args .starts .now) (s .args .weight) (s .args .i) (s .args .degree) (s .pre),
+      searchable (s .pre),
       (omega (arith, s .pre .low), omega (arith, s .pre .high)),
     )
 
@@ -66,8 +66,7 @@ under-requires c κs =
     let found = c .before in
     let scored = found .before .before .before .before in
     let s = start (scored .before) in
-    under-fits narrow (columnsAt s) (s .args .starts .now) (s .args .weight) (s .args .i) (s .args .degree) (s .pre) _ _
-    (own-is c) (found .search .ensures)
+    under-fits (s .pre) (own-is c) (found .search .ensures)
 
 returns-3 : tie.Need-returns-3
 returns-3 c =
@@ -78,7 +77,7 @@ returns-3 c =
     let s = start (scored .before) in
     c .under .ensures
     ∙ worked-searched narrow (columnsAt s) (s .args .weight) (s .args .i) (s .args .degree) (scored-of _ (scored .if1 .left))
-    (sym (single .is-single .ensures) ∙ many .if2 .left) _ _ (own-is (c .before)) (found .search .ensures)
+    (sym (single .is-single .ensures) ∙ many .if2 .left) (own-is (c .before)) (found .search .ensures)
 
 pub worked-spec : {M : Type 1} → statement M
 worked-spec =
