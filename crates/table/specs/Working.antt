@@ -20,8 +20,10 @@ use Rattle.kept.specs.View.{rowAt, entryAt, entriesOf, tableOf}
 use Rattle.kept.specs.Fit.{keepsRules, fitEntry, blankFrom}
 use Rattle.kept.specs.Arrays.{clustersDown, Rising, Sized}
 use Rattle.table.specs.declared.tally.Tally.{Tally}
-use Rattle.table.specs.Tally.{tallyOf, noTally, underTally, ownTally}
-use Rattle.table.specs.Searched.{Columns, partsOf, sumCovers, Starts, Long, Sound}
+use Rattle.table.specs.Tally.{tallyOf, ownTally}
+use Rattle.table.specs.Searched.{Starts, Long, Sound}
+use Rattle.table.specs.Columns.{Columns, partsOf, sumCovers}
+use Rattle.table.specs.Sums.{noTally, underTally}
 
 -- what the search adds up over the tuples of row i
 abbrev pub foundTally : Width → Columns → ℕ → ℕ → Tally

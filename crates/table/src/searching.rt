@@ -19,7 +19,8 @@ ghost use lib.ListN.{length, replicate};
 ghost use Rattle.laws.specs.Limits.{degreeHigh};
 ghost use Rattle.kept.specs.Arrays.{Rising};
 ghost use Rattle.table.specs.Tally.{tallyOf};
-ghost use Rattle.table.specs.Searched.{columns, partTally, partsOf, sumCovers, Past, Below, Starts, Readable, Searchable};
+ghost use Rattle.table.specs.Searched.{Past, Below, Starts, Readable, Searchable};
+ghost use Rattle.table.specs.Columns.{columns, partTally, partsOf, sumCovers};
 
 // How many of the first `n` rows have a smaller cluster than `value`; the first `past` of them are known to.
 pub(crate) fn place_below(clusters: &[u64], past: usize, n: usize, value: u64) -> usize

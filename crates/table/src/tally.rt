@@ -10,7 +10,7 @@ ghost use lib.Signed.{ltZ};
 ghost use mir.Syntax.{w64};
 ghost use mir.Val.{SFits};
 ghost use Rattle.laws.specs.Limits.{wordValues};
-ghost use Rattle.table.specs.Tally.{noTally, cappedSum, cappedProduct, isLarger, isBefore, keepsFirst, plusTally, underTally};
+ghost use Rattle.table.specs.Sums.{noTally, cappedSum, cappedProduct, isLarger, isBefore, keepsFirst, plusTally, underTally};
 
 // A number of tuples with the fields of a row. A count of 0 says that no tuple leads to a tree, and then the rest is zero.
 pub(crate) struct Tally {

@@ -17,8 +17,8 @@ ghost use mathlib.Core.Path.{_≡_};
 ghost use Prim.Native.Nat.{_<_};
 ghost use Rattle.laws.specs.Limits.{narrow, rowCap};
 ghost use Rattle.table.specs.Tally.{ownTally, lowMark, highMark};
-ghost use Rattle.table.specs.Searched.{columns};
 ghost use Rattle.table.specs.Working.{Workable, workedTally, againTable, Ready};
+ghost use Rattle.table.specs.Columns.{columns};
 
 // The mark of row `i` in the low word.
 fn low_mark(i: usize) -> u64

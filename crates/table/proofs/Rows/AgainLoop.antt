@@ -25,9 +25,10 @@ use Rattle.kept.specs.View.{rowAt, entryAt, entriesOf, tableOf}
 use Rattle.kept.specs.Fit.{isEmpty}
 use Rattle.kept.proofs.Laws.View.{Blank, empty→blank, blank→empty, blank-past, table-is}
 use Rattle.table.specs.declared.tally.Tally.{Tally}
-use Rattle.table.specs.Searched.{columnsOf, Starts}
+use Rattle.table.specs.Searched.{Starts}
 use Rattle.table.specs.Tally.{fieldsTally}
 use Rattle.table.specs.Working.{workedTally, tableClusters, againTable, Workable}
+use Rattle.table.specs.Columns.{columnsOf}
 use Rattle.table.proofs.Rows.AgainRow.{Partly, same-row, row-again}
 use Rattle.table.proofs.Rows.Stored.{resultIn, stored, stored-same, stored-other, stored-entries, stored-sized}
 

@@ -26,9 +26,10 @@ use Rattle.kept.specs.Arrays.{clustersDown, Rising, Sized}
 use Rattle.kept.proofs.Laws.Column.{mem-entries}
 use Rattle.kept.proofs.Laws.Fit.{cluster-pos}
 use Rattle.kept.proofs.Laws.Marks.{length-clustersDown}
-use Rattle.table.specs.Searched.{columnsOf, rowOf, fieldsOf, Starts, GoodRow, Sound}
+use Rattle.table.specs.Searched.{Starts, GoodRow, Sound}
 use Rattle.table.specs.Tally.{fieldsTally}
 use Rattle.table.specs.Working.{workedTally, tableClusters, Ready, Workable}
+use Rattle.table.specs.Columns.{columnsOf, rowOf, fieldsOf}
 use Rattle.table.proofs.Fitting.KeepsFit.{Over}
 use Rattle.table.proofs.Rows.Workable.{given-rules, cluster-word, weight-fits, given-full, given-falls}
 use Rattle.table.proofs.Rows.Workable.{again-fit-below, again-over-below}

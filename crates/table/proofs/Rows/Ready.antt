@@ -28,9 +28,11 @@ use Rattle.trees.proofs.Sets.Families.{one, Disj}
 use Rattle.kept.specs.Arrays.{clustersDown}
 use Rattle.kept.proofs.Laws.Marks.{mark-down, highest-lt}
 use Rattle.table.specs.declared.tally.Tally.{Tally}
-use Rattle.table.specs.Searched.{Columns, sumCovers, partsOf, Searchable}
-use Rattle.table.specs.Tally.{tallyWith, tallyOf, noTally, ownTally, underTally}
+use Rattle.table.specs.Searched.{Searchable}
+use Rattle.table.specs.Tally.{tallyWith, tallyOf, ownTally}
 use Rattle.table.specs.Working.{foundTally, workedTally, Ready}
+use Rattle.table.specs.Columns.{Columns, sumCovers, partsOf}
+use Rattle.table.specs.Sums.{noTally, underTally}
 use Rattle.table.proofs.Fitting.Rooted.{mine, own-disj}
 use Rattle.table.proofs.Rows.Working.{low-mark-is, high-mark-is}
 use Rattle.table.proofs.Tallies.CoverSums.{sumCovers-keeps}

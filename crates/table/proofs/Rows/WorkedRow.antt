@@ -35,9 +35,10 @@ use Rattle.kept.specs.declared.table.Table.{Table}
 use Rattle.kept.specs.View.{rowAt, entryAt, entriesOf}
 use Rattle.kept.specs.Arrays.{clustersDown}
 use Rattle.table.specs.declared.tally.Tally.{Tally}
-use Rattle.table.specs.Searched.{Columns, columnsOf, sumKind, sumCovers, partsOf}
-use Rattle.table.specs.Tally.{tallyOf, fieldsTally, noTally, ownTally, underTally, decoded}
+use Rattle.table.specs.Tally.{tallyOf, fieldsTally, ownTally, decoded}
 use Rattle.table.specs.Working.{foundTally, workedTally, Ready}
+use Rattle.table.specs.Columns.{Columns, columnsOf, sumKind, sumCovers, partsOf}
+use Rattle.table.specs.Sums.{noTally, underTally}
 use Rattle.table.proofs.Fitting.KeepsFit.{decode, Over, worked-is}
 use Rattle.table.proofs.Fitting.Rooted.{mine}
 use Rattle.table.proofs.Rows.Ready.{own-encoded, under-is}

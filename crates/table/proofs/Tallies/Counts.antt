@@ -17,7 +17,8 @@ use Rattle.trees.specs.Kind.{Sol, Res}
 use Rattle.trees.proofs.Counting.Capped.{trueCount, count-small, count-large, past}
 use Rattle.table.specs.declared.tally.Count.{Count}
 use Rattle.table.specs.declared.tally.Tally.{Tally}
-use Rattle.table.specs.Tally.{tallyWith, tallyOf, manyCount, exactCount, cappedSum, cappedProduct}
+use Rattle.table.specs.Tally.{tallyWith, tallyOf}
+use Rattle.table.specs.Sums.{manyCount, exactCount, cappedSum, cappedProduct}
 use Rattle.table.proofs.Tallies.Tally.{cappedSum-marked-l, cappedSum-marked-r, cappedSum-past, cappedSum-exact}
 use Rattle.table.proofs.Tallies.Tally.{cappedProduct-marked-l, cappedProduct-marked-r}
 use Rattle.table.proofs.Tallies.Tally.{cappedProduct-past, cappedProduct-exact, product-le}

@@ -22,9 +22,9 @@ use Rattle.trees.specs.Kind.{Sol, plusSol, timesSol, Res}
 use Rattle.trees.proofs.Counting.Capped.{trueCount, Counted}
 use Rattle.table.specs.declared.tally.Count.{Count}
 use Rattle.table.specs.declared.tally.Tally.{Tally}
-use Rattle.table.specs.Tally.{tallyWith, tallyOf, noTally, exactCount, cappedSum, cappedProduct}
-use Rattle.table.specs.Tally.{isLarger, isBefore, keepsFirst, withTuples, withCount, plusTally, underTally}
-use Rattle.table.specs.Searched.{sumKind}
+use Rattle.table.specs.Tally.{tallyWith, tallyOf}
+use Rattle.table.specs.Columns.{sumKind}
+use Rattle.table.specs.Sums.{noTally, exactCount, cappedSum, cappedProduct, isLarger, isBefore, keepsFirst, withTuples, withCount, plusTally, underTally}
 use Rattle.table.proofs.Tallies.Tally.{cappedProduct-none-l, cappedProduct-none-r}
 use Rattle.table.proofs.Tallies.Tally.{isLarger-high, isLarger-low}
 use Rattle.table.proofs.Tallies.Tally.{isBefore-by, keepsFirst-none-r, keepsFirst-none-l, keepsFirst-both}

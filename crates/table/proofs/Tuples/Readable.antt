@@ -29,9 +29,10 @@ use Rattle.trees.specs.Rows.{Entry, cl, sc}
 use Rattle.trees.specs.Kind.{Res}
 use Rattle.trees.proofs.Searching.Search.{lookup, lookup-row, lookup-missing, search-one}
 use Rattle.kept.proofs.Laws.Marks.{rising-part}
-use Rattle.table.specs.Tally.{tallyOf, noTally, decoded}
-use Rattle.table.specs.Searched.{Columns, rowOf, fieldsOf, partAt, partTally, partsOf, sumKind, sumCovers}
+use Rattle.table.specs.Tally.{tallyOf, decoded}
 use Rattle.table.specs.Searched.{Below, Long, Sound, Readable}
+use Rattle.table.specs.Columns.{Columns, rowOf, fieldsOf, partAt, partTally, partsOf, sumKind, sumCovers}
+use Rattle.table.specs.Sums.{noTally}
 use Rattle.table.proofs.Tuples.Searched.{parts-descend, sumCovers-search}
 use Rattle.table.proofs.Tallies.Decoded.{decoded-keeps, fields-tally}
 use Rattle.table.proofs.Tallies.Held.{Part}

@@ -26,8 +26,10 @@ use Rattle.trees.proofs.Searching.Leads.{leads}
 use Rattle.trees.proofs.Counting.Worked.{counted-plus}
 use Rattle.trees.proofs.Searching.Search.{scan, gain, search-more, scan-ended, scan-cons, scan-added, scan-unscored, scan-outside, scan-low}
 use Rattle.table.specs.declared.tally.Tally.{Tally}
-use Rattle.table.specs.Tally.{tallyOf, noTally, plusTally}
-use Rattle.table.specs.Searched.{Columns, partAt, partsOf, sumKind, sumCovers, Searchable}
+use Rattle.table.specs.Tally.{tallyOf}
+use Rattle.table.specs.Searched.{Searchable}
+use Rattle.table.specs.Columns.{Columns, partAt, partsOf, sumKind, sumCovers}
+use Rattle.table.specs.Sums.{noTally, plusTally}
 use Rattle.table.proofs.Tuples.Searched.{sumCovers-search}
 use Rattle.table.proofs.Tallies.Counts.{tally-tuples, tally-count-le}
 use Rattle.table.proofs.Tallies.Encoded.{tally-plus}

@@ -31,8 +31,10 @@ use Rattle.trees.proofs.Counting.Capped.{Counted}
 use Rattle.trees.proofs.Searching.Leads.{leads, leads-of-reach}
 use Rattle.trees.proofs.Searching.Search.{gain, gain-whole, gain-part}
 use Rattle.table.specs.declared.tally.Tally.{Tally}
-use Rattle.table.specs.Tally.{tallyOf, underTally}
-use Rattle.table.specs.Searched.{Columns, partAt, partTally, partsOf, sumKind, sumCovers, Below, Searchable}
+use Rattle.table.specs.Tally.{tallyOf}
+use Rattle.table.specs.Searched.{Below, Searchable}
+use Rattle.table.specs.Columns.{Columns, partAt, partTally, partsOf, sumKind, sumCovers}
+use Rattle.table.specs.Sums.{underTally}
 use Rattle.table.proofs.Tuples.Searched.{below-mono, parts-within, sumCovers-search, sumCovers-local}
 use Rattle.table.proofs.Tallies.CoverSums.{sumCovers-keeps}
 use Rattle.table.proofs.Tallies.Encoded.{tally-under}

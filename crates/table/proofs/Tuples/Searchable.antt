@@ -20,7 +20,8 @@ use Rattle.laws.proofs.Taxa.{highest-le}
 use Rattle.trees.specs.Rows.{Entry, cl, sc}
 use Rattle.trees.specs.Kind.{Res}
 use Rattle.kept.proofs.Laws.Marks.{highest-lt}
-use Rattle.table.specs.Searched.{Columns, partAt, partsOf, sumCovers, Past, Searchable}
+use Rattle.table.specs.Searched.{Past, Searchable}
+use Rattle.table.specs.Columns.{Columns, partAt, partsOf, sumCovers}
 use Rattle.table.proofs.Tallies.CoverSums.{sumCovers-few}
 use Rattle.table.proofs.Tallies.Held.{Part}
 use Rattle.table.proofs.Tuples.Readable.{parts-fall, parts-keep}

@@ -34,7 +34,8 @@ use Rattle.trees.proofs.Searching.Leads.{within, coversOf-scored}
 use Rattle.trees.proofs.Searching.Search.{search}
 use Rattle.trees.proofs.Searching.SearchSum.{search-is}
 use Rattle.kept.specs.Arrays.{Rising}
-use Rattle.table.specs.Searched.{Columns, partAt, partsOf, sumKind, sumCovers, Past, Below, Starts}
+use Rattle.table.specs.Searched.{Past, Below, Starts}
+use Rattle.table.specs.Columns.{Columns, partAt, partsOf, sumKind, sumCovers}
 
 -- ---- bisection
 

@@ -1,7 +1,7 @@
 -- `table::searching::last` meets its contract: the rows below `rest` are counted, and the next one is `rest` or no row is. Assumes nothing.
 use mathlib.Core.Path.{_∙_}
 use borrow.Author.Needs.{needs}
-use Rattle.table.specs.Searched.{Columns, columns}
+use Rattle.table.specs.Columns.{Columns, columns}
 use Rattle.table.proofs.Tuples.Readable.{LowWords, missing-is, other-is, unscored-is, found-is}
 use Rattle.table.proofs.searching.last.Statement.{statement}
 use Rattle.table.proofs.searching.last.Tie as tie

@@ -12,8 +12,8 @@ use mir.Syntax.{w32, w64}
 use mir.Val.{SFits}
 use Rattle.laws.specs.Limits.{narrow}
 use Rattle.laws.proofs.Width.{narrow-facts}
-use Rattle.table.specs.Searched.{columnsOf}
 use Rattle.table.specs.Working.{workedTally}
+use Rattle.table.specs.Columns.{columnsOf}
 use Rattle.table.proofs.Rows.AgainRow.{Partly, ready-row, weight-at}
 use Rattle.table.proofs.Rows.AgainLoop.{partly-start, partly-skip, partly-store, partly-end}
 use Rattle.table.proofs.working.again.Statement.{statement}
@@ -83,8 +83,8 @@ loop-again c =
     -- what is known of the result's fields, in the order of the struct: past tuples, count and mark, the best weight
     let from-best = w .19 .given .1 .1 .1 in
     let best-fits : SFits w64 (call .result .best) = record { sfits = from-best .0 .1 } in
-    partly-store narrow-facts (s .pre) (at-loop .loop .inv) (at-loop .before .put-starts .ensures) (inside .loop-test .taken) (sym test ∙ w .0 .taken)
-    (call .ensures ∙ ap (λ (z : ℤ). workedTally narrow (columnsOf t) z i (s .args .given .degree)) (toZ-ofZ (weight-fits inside)))
+    partly-store narrow-facts (s .pre) (at-loop .loop .inv) (at-loop .before .put-starts .ensures) (inside .loop-test .taken)
+    (sym test ∙ w .0 .taken) (call .ensures ∙ ap (λ (z : ℤ). workedTally narrow (columnsOf t) z i (s .args .given .degree)) (toZ-ofZ (weight-fits inside)))
     (toZ-ofZ best-fits) stored)
     (λ w.
     partly-skip narrow-facts (s .pre) (at-loop .loop .inv) (inside .loop-test .taken) (sym test ∙ w .0 .left) (w .1))

@@ -8,8 +8,8 @@ use mir.Facts.{toZ-ofZ}
 use mir.Syntax.{w32}
 use mir.Val.{SFits}
 use Rattle.laws.specs.Limits.{narrow}
-use Rattle.table.specs.Searched.{Columns, columns}
 use Rattle.table.specs.Tally.{ownTally}
+use Rattle.table.specs.Columns.{Columns, columns}
 use Rattle.table.proofs.Rows.Ready.{searchable, under-fits, worked-unscored, worked-single, worked-searched}
 use Rattle.table.proofs.Tuples.Readable.{scored-of, unscored-of}
 use Rattle.table.proofs.working.worked.Statement.{statement}

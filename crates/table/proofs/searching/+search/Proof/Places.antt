@@ -20,7 +20,8 @@ use Rattle.laws.specs.Limits.{wordValues}
 use Rattle.cluster.proofs.highest.Reads as highest-reads
 use Rattle.cluster.proofs.is_inside.Reads as is-inside-reads
 use Rattle.table.specs.declared.tally.Tally.{Tally}
-use Rattle.table.specs.Searched.{Columns, columns, Searchable}
+use Rattle.table.specs.Searched.{Searchable}
+use Rattle.table.specs.Columns.{Columns, columns}
 use Rattle.table.proofs.Tuples.Readable.{LowWords}
 use Rattle.table.proofs.Tuples.Searchable.{taxon-fits}
 use Rattle.table.proofs.Tuples.SearchRow.{Led, Adds, whole-adds, next-place, part-adds}
