@@ -72,8 +72,8 @@ module _ (d : ℕ) (rs : List Row) (k : Buildable narrow d rs) where
 
   -- ---- whether a tree is drawn
 
-  is-fit : isFit t ≡ true
-  is-fit = T-true (isFit t) (built-fit d rs k)
+  is-fit : isFit narrow t ≡ true
+  is-fit = T-true (isFit narrow t) (built-fit d rs k)
 
   no-trees : treesOf d rs ≡ [] → drawRefusal t ≡ some NoTree
   no-trees e = refusal-no-tree t is-fit (T-false (hasTree t) (λ h. has-tree-iff d rs k .0 h e))

@@ -37,13 +37,14 @@ use Rattle.trees.proofs.Formula.Rows.{givenOf, mem-scored}
 use Rattle.trees.proofs.Theorems.{count-iff}
 use Rattle.trees.proofs.Joined.TreeTest.{tree-of}
 use Rattle.kept.specs.declared.table.Table.{Table}
-use Rattle.kept.specs.View.{resultAt, entryAt, entriesOf, tableOf}
-use Rattle.kept.specs.Rows.{shownRows, unionTo, leafSet}
-use Rattle.kept.specs.Arrays.{clustersDown, Rising}
-use Rattle.kept.proofs.Laws.Column.{mem-entries}
+use Rattle.kept.specs.View.{resultAt, entryAt, entriesOf, tableOf, clustersDown}
+use Rattle.kept.specs.Rows.{shownRows, leafSet}
+use Rattle.kept.specs.Arrays.{Rising}
+use Rattle.laws.proofs.Down.{down-mem}
+use Rattle.laws.proofs.Width.{narrow-facts}
 use Rattle.kept.proofs.Laws.Fit.{isFit→}
-use Rattle.kept.proofs.Laws.Marks.{clusters-are}
-use Rattle.kept.proofs.Laws.Rows.{placeOf-first, hasRow-is, unionTo-is}
+use Rattle.kept.proofs.Laws.Clusters.{clusters-are}
+use Rattle.kept.proofs.Laws.Rows.{hasRow-is, placeOf-at}
 use Rattle.kept.proofs.Laws.View.{entries-table, table-sized}
 use Rattle.table.proofs.Laws.Build.{Buildable}
 use Rattle.table.proofs.Fitting.FitTables.{built-fit}
@@ -92,18 +93,18 @@ module _ (d : ℕ) (rs : List Row) (k : Buildable narrow d rs) where
   pub rising : Rising (t .clusters) (t .rows)
   rising = record {
     long = omega (arith, table-sized d (builtTable narrow d rs) capped .clusters, capped);
-    up = isFit→ t (built-fit d rs k) .rising;
+    up = isFit→ narrow narrow-facts t (built-fit d rs k) .rising;
   }
 
   pub row-at : (i : ℕ) → i < t .rows → (r : Row) × Mem r rs × (entry r ≡ entryAt t i)
   row-at i h =
-      Memᴰ·of-map entry rs (subst (Mem (entryAt t i)) (entries-table d (builtTable narrow d rs)) (mem-entries t (t .rows) i h))
+      Memᴰ·of-map entry rs (subst (Mem (entryAt t i)) (entries-table d (builtTable narrow d rs)) (down-mem (entryAt t) (t .rows) i h))
 
   -- ---- the leaf set and its row
 
   pub leaf-set-is : leafSet (builtFrom d rs) ≡ leaves rs
   leaf-set-is =
-      ap (unionTo (t .clusters)) shown-is ∙ unionTo-is (t .clusters) (t .rows) ∙ ap unionOf clusters-down
+      ap (λ (n : ℕ). unionOf (clustersDown (t .clusters) n)) shown-is ∙ ap unionOf clusters-down
 
   pub leaf-row-iff : (leafRow (builtFrom d rs) < builtFrom d rs .rows) ↔ Mem (leaves rs) (clustersOf rs)
   leaf-row-iff = (to, from)
@@ -124,7 +125,7 @@ module _ (d : ℕ) (rs : List Row) (k : Buildable narrow d rs) where
       × (entryAt (builtFrom d rs) (leafRow (builtFrom d rs)) ≡ record { row = r; val = builtResult narrow d rs r })
   leaf-row-is h =
       let q = row-at (leafRow t) h in
-      (q .0, q .1, ap cl (q .2) ∙ placeOf-first t capped (leafSet t) .at h ∙ leaf-set-is, sym (q .2))
+      (q .0, q .1, ap cl (q .2) ∙ placeOf-at t capped (leafSet t) h ∙ leaf-set-is, sym (q .2))
 
   -- its results are those of the trees on the leaf set
   pub leaf-result : leafRow t < t .rows → (n : ℕ) × (resultAt t (leafRow t) ≡ treeResult narrow rs n (treesOf d rs))

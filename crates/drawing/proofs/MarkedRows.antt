@@ -22,10 +22,11 @@ use Rattle.trees.specs.Heaviest.{weightIn}
 use Rattle.trees.specs.Result.{Result, marksIn}
 use Rattle.trees.proofs.Ties.Marks.{marks-lt, marks-inj}
 use Rattle.kept.specs.declared.table.Table.{Table}
-use Rattle.kept.specs.View.{entriesOf}
-use Rattle.kept.specs.Fit.{hasMark, isMarkedIn}
-use Rattle.kept.specs.Arrays.{clustersDown, Rising}
-use Rattle.kept.proofs.Laws.Marks.{mem-clustersDown, falling-clustersDown, isMarkedIn-is}
+use Rattle.kept.specs.View.{entriesOf, clustersDown}
+use Rattle.kept.specs.Arrays.{Rising}
+use Rattle.kept.specs.Marks.{hasMark, isMarkedIn}
+use Rattle.kept.proofs.Laws.Clusters.{isMarkedIn-is}
+use Rattle.laws.proofs.Down.{down-mem, down-falling}
 use Rattle.table.proofs.Rows.Marked.{marksOf-marked}
 use Rattle.drawing.specs.Marked.{membersTo, scoredTo, weightTo}
 
@@ -36,8 +37,8 @@ pub marks-tell : (cs : List ℕ) (n : ℕ) (p : ℕ → Bool) → Rising cs n �
 marks-tell cs n p up i h =
     let l = clustersDown cs n in
     let m = marksIn l p in
-    let coded = marksOf-marked l m (falling-clustersDown cs n (up .up)) (marks-lt l p) in
-    sym (marks-inj l p (isMarkedIn l m) coded (getD cs i 0) (mem-clustersDown cs n i h) ∙ isMarkedIn-is cs n m i up h)
+    let coded = marksOf-marked l m (down-falling _ n (up .up)) (marks-lt l p) in
+    sym (marks-inj l p (isMarkedIn l m) coded (getD cs i 0) (down-mem _ n i h) ∙ isMarkedIn-is cs n m i up h)
 
 module _ (m : ℕ) (p : ℕ → Bool) where
   pub members-tell : (cs : List ℕ) (n : ℕ) → Tells cs m p n → membersTo cs m n ≡ reverse (keep p (clustersDown cs n))

@@ -58,7 +58,7 @@ isDrawable t = areScored t && isTree (narrow .taxa) (t .degree) (leafSet t) (mem
 
 abbrev pub drawRefusal : Table → Option Refusal
 drawRefusal t =
-    cond (not (isFit t)) (some Unfit)
+    cond (not (isFit narrow t)) (some Unfit)
     (cond (not (hasTree t)) (some NoTree)
     (cond (not (isDrawable t)) (some Unfit)
     none))

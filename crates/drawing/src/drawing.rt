@@ -16,12 +16,13 @@ use cluster::Refusal;
 use table::Table;
 use table::is_fit;
 use table::leaf_set;
-use table::row_of;
+use table::place_of;
 ghost use mathlib.Core.Path.{_≡_};
 ghost use mathlib.Core.Bool.{true};
 ghost use mathlib.Core.List.{_++_};
 ghost use Prim.Native.Nat.{_≤_, _<_};
 ghost use lib.ListN.{length, drop};
+ghost use Rattle.laws.specs.Limits.{narrow};
 ghost use Rattle.cluster.specs.Writing.{wroteOf};
 ghost use Rattle.kept.specs.Fit.{isFit};
 ghost use Rattle.drawing.specs.Draw.{leafRow, membersOf, weighsBest, isDrawable, drawRefusal, drawTree, drawText};
@@ -29,7 +30,7 @@ ghost use Rattle.drawing.specs.Gathered.{Holds, Narrow, checkedAs};
 
 // Whether the weights of the members add up to the best of row `at`, the leaf set's.
 fn weighs_best(t: Table, at: usize) -> bool
-    requires { ⌜ isFit t ≡ true ⌝ }
+    requires { ⌜ isFit narrow t ≡ true ⌝ }
     requires { ⌜ at ≡ leafRow t ⌝ }
     requires { ⌜ at < t .rows ⌝ }
     ensures { λ b. ⌜ b ≡ weighsBest t ⌝ }
@@ -46,7 +47,7 @@ fn weighs_best(t: Table, at: usize) -> bool
 
 // Whether the marks of row `at`, the leaf set's, are a tree on it of the row's best weight.
 fn is_drawable(t: Table, at: usize) -> bool
-    requires { ⌜ isFit t ≡ true ⌝ }
+    requires { ⌜ isFit narrow t ≡ true ⌝ }
     requires { ⌜ at ≡ leafRow t ⌝ }
     requires { ⌜ at < t .rows ⌝ }
     ensures { λ b. ⌜ b ≡ isDrawable t ⌝ }
@@ -71,7 +72,7 @@ fn checked(t: Table) -> Answer
     if !is_fit(t) {
         return Answer::Refused(Refusal::Unfit);
     }
-    let at = row_of(t, leaf_set(t));
+    let at = place_of(t, leaf_set(t));
     if t.rows <= at {
         return Answer::Refused(Refusal::NoTree);
     }
@@ -86,11 +87,11 @@ fn checked(t: Table) -> Answer
 
 // The clusters that are marked in the leaf set's row.
 fn leaf_members(t: Table) -> Members
-    requires { ⌜ isFit t ≡ true ⌝ }
+    requires { ⌜ isFit narrow t ≡ true ⌝ }
     requires { ⌜ leafRow t < t .rows ⌝ }
     ensures { λ r. ⌜ Holds r (membersOf t) ⌝ }
 {
-    let at = row_of(t, leaf_set(t));
+    let at = place_of(t, leaf_set(t));
     let low = t.members_low[at];
     let high = t.members_high[at];
     members_of(&t.clusters, low, high, t.rows)

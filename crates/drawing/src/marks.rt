@@ -7,7 +7,7 @@
 ghost use mathlib.Core.Path.{_≡_};
 ghost use Prim.Native.Nat.{_+_, _*_, _≤_, _<_};
 ghost use Rattle.laws.specs.Limits.{rowCap, wordValues};
-ghost use Rattle.kept.specs.Fit.{hasMark};
+ghost use Rattle.kept.specs.Marks.{hasMark};
 ghost use Rattle.drawing.specs.Marked.{membersTo, scoredTo, weightTo};
 ghost use Rattle.drawing.specs.Gathered.{Holds};
 

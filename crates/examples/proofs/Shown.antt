@@ -10,6 +10,7 @@ use mathlib.Core.List.{List, [], _∷_}
 use Prim.Native.Nat.{ℕ, zero, suc, _≤_, _<_}
 use lib.Dec.{T, eqb, eqb→eq, ltb→lt, lit<, T-not}
 use lib.ListN.{length, getD}
+use Rattle.laws.specs.Limits.{narrow}
 use Rattle.laws.specs.Lists.{every}
 use Rattle.laws.proofs.Tests.{T-and, T-true, T-false}
 use Rattle.cluster.specs.declared.record.Record.{Record}
@@ -59,20 +60,20 @@ bytes→ (x ∷ xs) h (suc i) = bytes→ xs (T-and (isByte x) (every isByte xs) 
 
 -- ---- the rescoring
 
-pub rescored-is : (x : Option Record) (t : Table) → T (isFit t) → T (takes x t)
-    → (rescoredBy x t ≡ record { sent = done; table = after x t }) × T (isFit (after x t))
+pub rescored-is : (x : Option Record) (t : Table) → T (isFit narrow t) → T (takes x t)
+    → (rescoredBy x t ≡ record { sent = done; table = after x t }) × T (isFit narrow (after x t))
 rescored-is none t fit h = (refl, fit)
 rescored-is (some r) t fit h =
     let q = T-and (hasRow t (r .cluster)) (isScore (r .weight) (r .state)) h in
     let new = newTable t (r .cluster) (r .weight) (r .state) in (
-      sym (rescore-done t (r .cluster) (r .weight) (r .state) (T-true (isFit t) fit) (T-true (hasRow t (r .cluster)) (q .0))
+      sym (rescore-done t (r .cluster) (r .weight) (r .state) (T-true (isFit narrow t) fit) (T-true (hasRow t (r .cluster)) (q .0))
           (T-true (isScore (r .weight) (r .state)) (q .1)) new refl),
       rescored-fit t (r .cluster) (r .weight) (r .state) fit (q .1),
     )
 
 -- ---- what is drawn
 
-module _ (u : Table) (fit : T (isFit u)) where
+module _ (u : Table) (fit : T (isFit narrow u)) where
   abbrev text : List ℕ
   text = textOf (membersOf u) (leafSet u)
 
@@ -86,7 +87,7 @@ module _ (u : Table) (fit : T (isFit u)) where
 
   refuses→ : (T (hasTree u) → ⊥) → Refuses u (numberOf NoTree)
   refuses→ h =
-      let e = refusal-no-tree u (T-true (isFit u) fit) (T-false (hasTree u) h) in
+      let e = refusal-no-tree u (T-true (isFit narrow u) fit) (T-false (hasTree u) h) in
       record { tree = λ l. tree-of l e; text = λ l. text-of l e }
 
   -- room for the whole output
@@ -96,7 +97,7 @@ module _ (u : Table) (fit : T (isFit u)) where
   none-refused : T (hasTree u && isDrawable u) → drawRefusal u ≡ none
   none-refused h =
       let q = T-and (hasTree u) (isDrawable u) h in
-      refusal-none u (T-true (isFit u) fit) (T-true (hasTree u) (q .0)) (T-true (isDrawable u) (q .1))
+      refusal-none u (T-true (isFit narrow u) fit) (T-true (hasTree u) (q .0)) (T-true (isDrawable u) (q .1))
 
   row-told→ : (x : Drawn) → T (hasRowTold u x) → RowTold u x
   row-told→ x h =

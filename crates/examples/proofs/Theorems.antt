@@ -9,6 +9,7 @@ use mathlib.Core.List.{List, List·Memᴰ as Mem}
 use Prim.Native.Nat.{ℕ, _<_}
 use lib.Dec.{T}
 use lib.ListN.{getD}
+use Rattle.laws.specs.Limits.{narrow}
 use Rattle.laws.specs.Lists.{every}
 use Rattle.laws.proofs.Keep.{every→}
 use Rattle.laws.proofs.Tests.{T-and, true-T}
@@ -39,7 +40,7 @@ record Ends (c : Case) (t : Table) (u : Changing) : Type 0 where
   changed : Changes t (u .table) (c .changed)
   told : Told (u .table) (c .outcome)
 
-ends-of-holds : (c : Case) (t : Table) → T (isFit t) → T (holdsFrom c t) → Ends c t (rescoredBy (c .rescoring) t)
+ends-of-holds : (c : Case) (t : Table) → T (isFit narrow t) → T (holdsFrom c t) → Ends c t (rescoredBy (c .rescoring) t)
 ends-of-holds c t fit h =
     let u = after (c .rescoring) t in
     let q = T-and (takes (c .rescoring) t) (endsIn c t u) h in

@@ -3,13 +3,19 @@
 pub mod Column
 -- what an order of positions shows
 pub mod Through
--- marks by row number, and the clusters of the first rows
-pub mod Marks
--- a fit table as facts
-pub mod Fit
+-- results and rows that are all zero
+pub mod Blank
 -- a table as rows with their results, and back
 pub mod View
+-- member marks
+pub mod Marks
+-- the clusters of the first rows, and their marks by row number
+pub mod Clusters
+-- one word of marks, and two
+pub mod Words
+-- the results of a fit row as facts
+pub mod Results
+-- a fit row and a fit table as facts
+pub mod Fit
 -- looking up rows
 pub mod Rows
--- the tests of fitness in the order of the code
-pub mod Fitness

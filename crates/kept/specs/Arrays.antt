@@ -1,24 +1,19 @@
 -- The arrays of a table as the private functions see them.
 --     through f o n         what f has for the first n numbers of o, the last of them first
---     clustersDown cs n     the first n clusters, the largest first
 --     Rising cs n           the first n clusters are there, and ascend
 --     Sized t               every array has room for 128 rows
 -- Assumes nothing.
 use mathlib.Core.Path.{_≡_}
-use mathlib.Core.List.{List, [], _∷_}
-use Prim.Native.Nat.{ℕ, zero, suc, _≤_, _<_}
+use mathlib.Core.List.{List}
+use Prim.Native.Nat.{ℕ, _≤_, _<_}
 use lib.ListN.{length, getD}
-use Rattle.kept.specs.declared.table.Table.{Table}
 use Rattle.laws.specs.Limits.{rowCap}
+use Rattle.laws.specs.Lists.{downTo}
+use Rattle.kept.specs.declared.table.Table.{Table}
 
 module _ {A : Type 0} where
   abbrev pub through : (ℕ → A) → List ℕ → ℕ → List A
-  through f o zero = []
-  through f o (suc i) = f (getD o i 0) ∷ through f o i
-
-abbrev pub clustersDown : List ℕ → ℕ → List ℕ
-clustersDown cs zero = []
-clustersDown cs (suc i) = getD cs i 0 ∷ clustersDown cs i
+  through f o = downTo (λ (i : ℕ). f (getD o i 0))
 
 pub record Rising (cs : List ℕ) (n : ℕ) : Type 0 where
   pub long : n ≤ length cs

@@ -1,16 +1,19 @@
 -- The table as rows with their results, and rows with their results as a table (document 01, "The table"). Laws: `proofs/Laws/View.antt`.
 --     rowAt, resultAt, entryAt row i of a table: what was listed, what was worked out, both
 --     entriesOf t n            the first n rows, the largest cluster first
+--     clustersIn t             the clusters of its rows
+--     clustersDown cs n        the first n clusters of an array, the largest first
 --     tableOf d es             the table with degree bound d and the rows es: ascending, and all zero past them
 --     zeroTable                the all-zero table
 -- Assumes nothing.
-use mathlib.Core.List.{List, [], _∷_, _++_, map, reverse}
-use Prim.Native.Nat.{ℕ, zero, suc, _+_, _-_, _*_, _/_, _%_}
+use mathlib.Core.List.{List, [], _++_, map, reverse}
+use Prim.Native.Nat.{ℕ, _+_, _-_, _*_, _/_, _%_}
 use lib.IntN.{pos}
 use lib.ListN.{getD, length, replicate}
 use Rattle.laws.specs.Limits.{rowCap, wordValues}
+use Rattle.laws.specs.Lists.{downTo}
 use Rattle.laws.specs.Row.{Row}
-use Rattle.trees.specs.Rows.{Entry}
+use Rattle.trees.specs.Rows.{Entry, cl}
 use Rattle.trees.specs.Result.{Result}
 use Rattle.kept.specs.declared.table.Table.{Table}
 
@@ -30,8 +33,13 @@ abbrev pub entryAt : Table → ℕ → Entry Result
 entryAt t i = record { row = rowAt t i; val = resultAt t i }
 
 abbrev pub entriesOf : Table → ℕ → List (Entry Result)
-entriesOf t zero = []
-entriesOf t (suc i) = entryAt t i ∷ entriesOf t i
+entriesOf t = downTo (entryAt t)
+
+abbrev pub clustersIn : Table → List ℕ
+clustersIn t = map cl (entriesOf t (t .rows))
+
+abbrev pub clustersDown : List ℕ → ℕ → List ℕ
+clustersDown cs = downTo (λ (i : ℕ). getD cs i 0)
 
 -- one field of all rows, ascending, and zeros past them
 module _ {A : Type 0} where

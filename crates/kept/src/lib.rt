@@ -2,10 +2,13 @@
 // definition of `specs/`. The crate `table` builds and rescores it, and passes these on.
 //     Table, zero_table         one value with room for 128 rows, and the one that is all zero
 //     is_fit                    every sentence of document 01's "fit", as one test
-//     row_of, leaf_set          where a cluster's row stands, and the union of all clusters
+//     place_of, leaf_set         where a cluster's row stands, and the union of all clusters
 //     COUNT_MAX, ..             the paper's limits that the crates above compare with too
+mod blank;
 mod fitness;
 mod limits;
+mod marks;
+mod results;
 mod rows;
 mod table;
 
@@ -16,6 +19,6 @@ pub use limits::DEGREE_LOW;
 pub use limits::SCORED;
 pub use limits::WORD_ROWS;
 pub use rows::leaf_set;
-pub use rows::row_of;
+pub use rows::place_of;
 pub use table::Table;
 pub use table::zero_table;

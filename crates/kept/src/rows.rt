@@ -1,28 +1,30 @@
 // Looking up rows in a table, whatever it holds. Cites `specs/Rows.antt`.
-//     row_of       where the row of a cluster stands
+//     place_of     where the row of a cluster stands
 //     leaf_set     the union of all clusters
-use crate::limits::ROWS;
+use crate::limits::ROW_CAP;
 use crate::table::Table;
 ghost use mathlib.Core.Path.{_≡_};
 ghost use Prim.Native.Nat.{_≤_};
 ghost use lib.ListN.{length};
-ghost use Rattle.kept.specs.Rows.{shownRows, placeFrom, placeOf, unionTo, leafSet};
+ghost use Rattle.laws.specs.Cluster.{unionOf};
+ghost use Rattle.kept.specs.View.{clustersDown};
+ghost use Rattle.kept.specs.Rows.{shownRows, placeAmong, placeOf, leafSet};
 
 // How many rows of `t` there are to look at: none past the 128.
 fn shown_rows(t: Table) -> usize
     ensures { λ n. ⌜ n ≡ shownRows t ⌝ }
 {
     let n = t.rows;
-    if ROWS < n {
-        return ROWS;
+    if ROW_CAP < n {
+        return ROW_CAP;
     }
     n
 }
 
 // The first of the first `n` places that has `cluster`; `n` where none has.
-fn place_of(clusters: &[u64], n: usize, cluster: u64) -> usize
+fn place_among(clusters: &[u64], n: usize, cluster: u64) -> usize
     requires { ⌜ n ≤ length (now clusters) ⌝ }
-    ensures { λ i. ⌜ i ≡ placeFrom (now (clusters .entry)) cluster 0 n ⌝ }
+    ensures { λ i. ⌜ i ≡ placeAmong (now (clusters .entry)) n cluster ⌝ }
 {
     let mut i = 0;
     while i < n {
@@ -37,7 +39,7 @@ fn place_of(clusters: &[u64], n: usize, cluster: u64) -> usize
 // The union of the first `n` clusters.
 fn union_to(clusters: &[u64], n: usize) -> u64
     requires { ⌜ n ≤ length (now clusters) ⌝ }
-    ensures { λ c. ⌜ c ≡ unionTo (now (clusters .entry)) n ⌝ }
+    ensures { λ c. ⌜ c ≡ unionOf (clustersDown (now (clusters .entry)) n) ⌝ }
 {
     let mut all = 0;
     let mut i = 0;
@@ -49,11 +51,11 @@ fn union_to(clusters: &[u64], n: usize) -> u64
 }
 
 // The row of `cluster`, counted from 0; the number of rows, but no more than 128, where it has none.
-pub fn row_of(t: Table, cluster: u64) -> usize
+pub fn place_of(t: Table, cluster: u64) -> usize
     ensures { λ i. ⌜ i ≡ placeOf t cluster ⌝ }
 {
     let n = shown_rows(t);
-    place_of(&t.clusters, n, cluster)
+    place_among(&t.clusters, n, cluster)
 }
 
 // The union of the clusters of all rows: no taxon where there is no row.

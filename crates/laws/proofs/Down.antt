@@ -3,12 +3,13 @@
 --     mem-down, down-mem         what stands there is what the places have
 --     falling-down, down-falling     the list falls exactly where later places have more
 --     every→down, down→every     what holds of all is what holds at each place
+--     down-passed, down-stopped     one step of a loop over the places from the last down, and its stop
 -- Assumes nothing.
 use mathlib.Core.Path.{_≡_, refl, sym, ap, ap₂, subst}
-use mathlib.Core.Bool.{Bool}
+use mathlib.Core.Bool.{Bool, true, false}
 use mathlib.Core.List.{List, _∷_, map}
 use mathlib.Core.List.{List·Memᴰ as Mem, List·Memᴰ·head as here, List·Memᴰ·tail as there, List·Memᴰ·not-nil as mem-nil}
-use Prim.Native.Nat.{ℕ, zero, suc, _≤_, _<_}
+use Prim.Native.Nat.{ℕ, zero, suc, _-_, _≤_, _<_}
 use native.Mathlib.Decide.{decLe}
 use native.Mathlib.Omega.{arith}
 use lib.Dec.{T}
@@ -56,6 +57,15 @@ module _ {A : Type 0} where
   pub down→every : (p : A → Bool) (f : ℕ → A) (n : ℕ) → ((j : ℕ) → j < n → T (p (f j))) → T (every p (downTo f n))
   down→every p f zero h = tt
   down→every p f (suc n) h = and-T (p (f n)) (every p (downTo f n)) (h n (omega arith)) (down→every p f n (λ j k. h j (omega arith)))
+
+  module _ (p : A → Bool) (f : ℕ → A) where
+    pub down-passed : (n : ℕ) → 0 < n → p (f (n - 1)) ≡ true → every p (downTo f n) ≡ every p (downTo f (n - 1))
+    down-passed zero h e = absurd (omega arith)
+    down-passed (suc n) h e = let a : suc n - 1 ≡ n = omega arith in rw (a, rw a at e)
+
+    pub down-stopped : (n : ℕ) → 0 < n → p (f (n - 1)) ≡ false → every p (downTo f n) ≡ false
+    down-stopped zero h e = absurd (omega arith)
+    down-stopped (suc n) h e = let a : suc n - 1 ≡ n = omega arith in rw (rw a at e)
 
 -- later places have more
 pub falling-down : (f : ℕ → ℕ) (n : ℕ) → Falling (downTo f n) → (j k : ℕ) → j < k → k < n → f j < f k

@@ -4,18 +4,20 @@
 --     eq-of-parts, sum-parts, abs-parts       equality, sums and absolute values by parts
 --     lt→parts, parts→lt           the test `ltZ` by parts, both ways
 --     ltZ-trans, ltZ-irrefl, ltZ-add, Tri, tri     a strict order that sums keep, any two compared
---     abs-sum-le, mag-le-abs       absolute values of sums
+--     abs-sum-le, mag-le-abs, zero-of-abs     absolute values: of sums, and of zero
+--     within-low, within-high      a bound either way, one end after the other
 --     add-swap                     the first two of three change places
 -- Assumes nothing.
 use mathlib.Core.Path.{_≡_, refl, sym, ap, _∙_}
 use mathlib.Core.Bool.{Bool, true, false}
-use Prim.Native.Nat.{ℕ, suc, _+_, _≤_, _<_}
+use Prim.Native.Nat.{ℕ, zero, suc, _+_, _≤_, _<_}
 use native.Mathlib.Decide.{decLe}
 use native.Mathlib.Omega.{arith}
 use lib.Dec.{T, ltb, ltb→lt, lt→ltb}
-use lib.IntN.{ℤ, pos, negsuc, natAbs, subℕ, _+ℤ_, +ℤ-comm, +ℤ-assoc}
-use lib.Signed.{mag, ltZ}
-use borrow.Author.Tests.{ltb-true, ltb-false}
+use lib.IntN.{ℤ, pos, negsuc, natAbs, negℤ, subℕ, _+ℤ_, +ℤ-comm, +ℤ-assoc}
+use lib.Signed.{mag, ltZ, leZ}
+use borrow.Author.Tests.{le-leb, lt-leb, ltb-true, ltb-false}
+use Rattle.laws.specs.Limits.{isWithin}
 
 abbrev pub up : ℤ → ℕ
 up (pos n) = n
@@ -57,6 +59,21 @@ abs-sum-le a b = omega (arith, abs-le-parts (a +ℤ b) (up a + up b) (dn a + dn 
 pub mag-le-abs : (z : ℤ) → mag z ≤ natAbs z
 mag-le-abs (pos n) = omega arith
 mag-le-abs (negsuc n) = omega arith
+
+pub zero-of-abs : (z : ℤ) → natAbs z ≡ 0 → z ≡ pos 0
+zero-of-abs (pos n) e = ap pos e
+zero-of-abs (negsuc n) e = absurd (omega arith)
+
+pub within-low : (m : ℕ) (z : ℤ) → ltZ z (negℤ (pos m)) ≡ true → isWithin m z ≡ false
+within-low zero (pos n) e = absurd (omega (arith, ltb-true n 0 e))
+within-low (suc m) (pos n) e = let z : _≡_ {A = ℕ} 0 1 = cc in absurd (omega arith)
+within-low zero (negsuc n) e = lt-leb (suc n) 0 (omega arith)
+within-low (suc m) (negsuc n) e = lt-leb (suc n) (suc m) (omega (arith, ltb-true m n e))
+
+pub within-high : (m : ℕ) (z : ℤ) → ltZ z (negℤ (pos m)) ≡ false → leZ z (pos m) ≡ isWithin m z
+within-high m (pos n) e = refl
+within-high zero (negsuc n) e = let z : _≡_ {A = ℕ} 0 1 = cc in absurd (omega arith)
+within-high (suc m) (negsuc n) e = sym (le-leb (suc n) (suc m) (omega (arith, ltb-false m n e)))
 
 pub add-swap : (a b c : ℤ) → a +ℤ (b +ℤ c) ≡ b +ℤ (a +ℤ c)
 add-swap a b c = sym (+ℤ-assoc a b c) ∙ ap (λ (x : ℤ). x +ℤ c) (+ℤ-comm a b) ∙ +ℤ-assoc b a c

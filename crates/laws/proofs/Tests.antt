@@ -1,18 +1,22 @@
 -- Laws of tests: a test is a Bool, and `T b` says that it passes.
 --     T-and, and-T, T-or, or-l, or-r     conjunction and disjunction, out of and into
+--     imp→, →imp        a second test that passes where the first does
+--     else→, →else      a second test that passes where the first doesn't
 --     T-dec             a test passes or doesn't
 --     T-true, T-false   a test that passes, or can't, as an equation
 --     true-T            and back
+--     passed, failed    what a call of the code told, a its answer and b its promise
 --     cond-true, cond-false     what is chosen by such a test
 --     bool-ext          tests that pass together are equal
 --     or-split          a test is itself with a second test, or without it
 --     eq→eqb            equal numbers pass the test of equality
 --     neq→, →neq        different numbers, out of the test and into it
 -- Assumes nothing.
-use mathlib.Core.Path.{_≡_, refl, sym, subst}
+use mathlib.Core.Path.{_≡_, refl, sym, _∙_, subst}
 use mathlib.Core.Logic.{_⊎_, inl, inr, _≢_}
 use mathlib.Core.Bool.{Bool, true, false, not, cond, _&&_, _||_}
 use Prim.Native.Nat.{ℕ}
+use borrow.Author.Tests.{not-true, not-false}
 use lib.Dec.{T, eqb, eqb→eq, eqb-refl, T-not, not-T}
 
 pub T-and : (a b : Bool) → T (a && b) → T a × T b
@@ -34,6 +38,22 @@ or-l false b h = absurd h
 pub or-r : (a b : Bool) → T b → T (a || b)
 or-r true b h = tt
 or-r false b h = h
+
+pub imp→ : (a b : Bool) → T (not a || b) → T a → T b
+imp→ true b h k = h
+imp→ false b h k = absurd k
+
+pub →imp : (a b : Bool) → (T a → T b) → T (not a || b)
+→imp true b f = f tt
+→imp false b f = tt
+
+pub else→ : (a b : Bool) → T (a || b) → (T a → ⊥) → T b
+else→ true b h n = absurd (n tt)
+else→ false b h n = h
+
+pub →else : (a b : Bool) → ((T a → ⊥) → T b) → T (a || b)
+→else true b f = tt
+→else false b f = f (λ h. h)
 
 pub T-dec : (a : Bool) → T a ⊎ (T a → ⊥)
 T-dec true = inl tt
@@ -77,3 +97,9 @@ cond-false false x y h = refl
 
 pub true-T : {b : Bool} → b ≡ true → T b
 true-T e = subst T (sym e) tt
+
+pub passed : {a b : Bool} → a ≡ b → not a ≡ false → b ≡ true
+passed {a} e h = sym e ∙ not-false a h
+
+pub failed : {a b : Bool} → a ≡ b → not a ≡ true → b ≡ false
+failed {a} e h = sym e ∙ not-true a h

@@ -2,6 +2,7 @@
 --     Width         the limits that a wider record moves
 --     narrow        the limits of document 01: 32 taxa, 128 rows, records of 12 bytes
 --     weightMax     the largest weight, either way: the same for every width
+--     isWithin n z  the integer z is no further than n from zero
 --     degreeLow, degreeHigh, isDegree d     the degree bounds that are taken
 --     rowCap        the room for rows in the arrays of a list or a table, which a width may leave unused
 --     wordValues    how many values a word of 64 bits has
@@ -12,6 +13,7 @@ use mathlib.Core.Bool.{Bool, _&&_}
 use mathlib.Core.Path.{_≡_}
 use Prim.Native.Nat.{ℕ, zero, suc, _+_, _-_, _*_, _≤_, _<_}
 use lib.Dec.{leb}
+use lib.IntN.{ℤ, natAbs}
 
 pub record Width : Type 0 where
   -- taxa, and rows of a table
@@ -40,6 +42,9 @@ narrow = record {
 
 abbrev pub weightMax : ℕ
 weightMax = 1000000
+
+abbrev pub isWithin : ℕ → ℤ → Bool
+isWithin n z = leb (natAbs z) n
 
 abbrev pub degreeLow : ℕ
 degreeLow = 3

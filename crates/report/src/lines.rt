@@ -11,7 +11,7 @@ use drawing::text;
 use table::Table;
 use table::build;
 use table::leaf_set;
-use table::row_of;
+use table::place_of;
 ghost use mathlib.Core.Path.{_≡_};
 ghost use Prim.Native.Nat.{_≤_, _<_};
 ghost use lib.ListN.{length};
@@ -34,7 +34,7 @@ fn put_table(degree: u32, t: Table, room: &mut [u8]) -> usize
     match answer {
         Answer::Refused(refusal) => put_refused(degree, refusal, room),
         Answer::Done(n) => {
-            let at = row_of(t, leaf_set(t));
+            let at = place_of(t, leaf_set(t));
             let count = t.counts[at];
             let mark = t.marks[at];
             let best = t.bests[at];

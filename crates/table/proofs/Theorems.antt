@@ -18,7 +18,7 @@
 --   strict marking, one outcome for every input
 --     build-only (Laws/Build.antt)                  `build`
 --     rescore-only (RescoredTables.antt)            `rescore`
---     value-only (`cluster`, Theorems.antt)         `zero_table`, `is_fit`, `row_of`, `leaf_set`: the promise is an equation to a value
+--     value-only (`cluster`, Theorems.antt)         `zero_table`, `is_fit`, `place_of`, `leaf_set`: the promise is an equation to a value
 -- Definitions of changes and of rescoring once and again (`changedBytes`, `changeAll`, `rescoreAll`): `specs/Changes.antt`.
 -- Assumes nothing.
 use mathlib.Core.Path.{_≡_, refl, sym, ap, _∙_, subst}
@@ -35,6 +35,7 @@ use Rattle.laws.specs.Lists.{elem}
 use Rattle.laws.specs.Row.{Row}
 use Rattle.laws.proofs.Keep.{elem→, →elem}
 use Rattle.laws.proofs.Tests.{true-T}
+use Rattle.laws.proofs.Width.{narrow-facts}
 use Rattle.cluster.specs.declared.refusal.Answer.the-variants.{Done}
 use Rattle.cluster.specs.Refusal.{sentOf}
 use Rattle.trees.specs.Rows.{Entry, clustersOf, cl}
@@ -63,14 +64,14 @@ use Rattle.table.proofs.Laws.Listing.{clusters-mem, clusters-has, elem-
 
 -- ---- the build of an accepted list
 
-pub build-fit : (l : List ℕ) (d : ℕ) → Accepted l d → Bytes l → T (isFit (buildTable l d .table))
-build-fit l d a byte = rw (built-table l d a) (built-fit d (rowsOf l) (accepted-rows l d byte a))
+pub build-fit : (l : List ℕ) (d : ℕ) → Accepted l d → Bytes l → T (isFit narrow (buildTable l d .table))
+build-fit l d a byte = rw (built-table l d a) (built-fit narrow narrow-facts d (rowsOf l) (accepted-rows l d byte a))
 
 -- ---- demand 3: rescoring a built table
 
 -- rescoring the table of rows
 module _ (d : ℕ) (es : List (Entry Result)) (c : ℕ) (z : ℤ) (s : ℕ) where
-  new-table-of : newTable (tableOf d es) c z s ≡ tableOf d (rescored narrow d (map cl es) c z s es)
+  new-table-of : newTable narrow (tableOf d es) c z s ≡ tableOf d (rescored narrow d (map cl es) c z s es)
   new-table-of = ap (λ (x : List (Entry Result)). tableOf d (rescored narrow d (map cl x) c z s x)) (entries-table d es)
 
 module _ (l : List ℕ) (d : ℕ) (byte : Bytes l) (a : Accepted l d) where
@@ -122,9 +123,9 @@ module _ (l : List ℕ) (d : ℕ) (byte : Bytes l) (a : Accepted l d) where
       after-rows =
           ap (λ (x : ℕ). map (putScore x z s) rows) (q .2) ∙ sym (changed-rows l d byte a (q .0) z s (q .1) score)
 
-      new-table-is : newTable (buildTable l d .table) c z s ≡ buildTable after d .table
+      new-table-is : newTable narrow (buildTable l d .table) c z s ≡ buildTable after d .table
       new-table-is =
-          ap (λ (t : Table). newTable t c z s) (built-table l d a)
+          ap (λ (t : Table). newTable narrow t c z s) (built-table l d a)
           ∙ new-table-of d (builtTable narrow d rows) c z s
           ∙ ap (λ (cs : List ℕ). tableOf d (rescored narrow d cs c z s (builtTable narrow d rows))) clusters-are
           ∙ ap (tableOf d) (rescore-is-build narrow d c z s rows (lit≤ tt) (accepted-facts l d byte a))

@@ -8,19 +8,17 @@
 -- Assumes nothing.
 use mathlib.Core.Bool.{Bool, false, not, cond}
 use mathlib.Core.Option.{Option, none, some}
-use mathlib.Core.List.{map}
 use Prim.Native.Nat.{ℕ}
 use lib.IntN.{ℤ}
-use Rattle.laws.specs.Limits.{narrow}
+use Rattle.laws.specs.Limits.{Width, narrow}
 use Rattle.cluster.specs.declared.refusal.Answer.the-variants.{Done, Refused}
 use Rattle.cluster.specs.declared.refusal.Refusal.{Refusal}
 use Rattle.cluster.specs.declared.refusal.Refusal.the-variants.{Unfit, NoRow, BadScore}
 use Rattle.cluster.specs.Refusal.{Sent, sentOf}
 use Rattle.cluster.specs.Rule.{brokenRule, isKept}
-use Rattle.trees.specs.Rows.{cl}
 use Rattle.trees.specs.Rescored.{rescored}
 use Rattle.kept.specs.declared.table.Table.{Table}
-use Rattle.kept.specs.View.{entriesOf, tableOf}
+use Rattle.kept.specs.View.{entriesOf, clustersIn, tableOf}
 use Rattle.kept.specs.Fit.{isFit}
 use Rattle.kept.specs.Rows.{hasRow}
 use Rattle.table.specs.declared.rescoring.Rescored.{Rescored}
@@ -38,18 +36,18 @@ isScore z s = isKept (brokenRule (record { cluster = 1; weight = z; state = s })
 
 abbrev pub rescoreRefusal : Table → ℕ → ℤ → ℕ → Option Refusal
 rescoreRefusal t c z s =
-    cond (not (isFit t)) (some Unfit)
+    cond (not (isFit narrow t)) (some Unfit)
     (cond (not (hasRow t c)) (some NoRow)
     (cond (not (isScore z s)) (some BadScore)
     none))
 
-abbrev pub newTable : Table → ℕ → ℤ → ℕ → Table
-newTable t c z s =
-    tableOf (t .degree) (rescored narrow (t .degree) (map cl (entriesOf t (t .rows))) c z s (entriesOf t (t .rows)))
+abbrev pub newTable : Width → Table → ℕ → ℤ → ℕ → Table
+newTable W t c z s =
+    tableOf (t .degree) (rescored W (t .degree) (clustersIn t) c z s (entriesOf t (t .rows)))
 
 abbrev pub changedOf : Table → ℕ → ℤ → ℕ → Option Refusal → Changing
 changedOf t c z s (some f) = record { sent = sentOf (Refused f); table = t }
-changedOf t c z s none = record { sent = sentOf (Done 0); table = newTable t c z s }
+changedOf t c z s none = record { sent = sentOf (Done 0); table = newTable narrow t c z s }
 
 unfoldable pub rescoreTable : Table → ℕ → ℤ → ℕ → Changing
 rescoreTable t c z s = changedOf t c z s (rescoreRefusal t c z s)

@@ -15,7 +15,7 @@ use Rattle.laws.specs.Limits.{rowCap, wordValues}
 use Rattle.laws.specs.Row.{Row, isScored}
 use Rattle.trees.specs.Result.{Result}
 use Rattle.kept.specs.Arrays.{Rising}
-use Rattle.kept.specs.Fit.{isTold}
+use Rattle.kept.specs.Results.{isMatched}
 use Rattle.table.specs.Columns.{Columns, rowOf, fieldsOf}
 
 -- ---- rows in ascending order
@@ -48,7 +48,7 @@ pub record Long (k : Columns) (n : ℕ) : Type 0 where
 pub record GoodRow (limit : ℕ) (cs : List ℕ) (r : Row) (v : Result) : Type 0 where
   pub counted : v .count ≤ limit
   pub marked : (v .mark ≡ 0) ⊎ ((v .mark ≡ 1) × (v .count ≡ limit))
-  pub bounded : T (isTold cs r v)
+  pub matched : T (isMatched cs r v)
 
 -- the first n rows ascend, and the results of the scored ones may be added up; cs are the clusters of all rows
 pub record Sound (limit : ℕ) (k : Columns) (cs : List ℕ) (n : ℕ) : Type 0 where

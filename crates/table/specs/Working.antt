@@ -1,7 +1,6 @@
 -- What the private functions that work rows out cite: one row over the columns beneath it, and every row that contains a cluster.
 --     workedTally W k z i d     row i of the columns, with the weight z, from the rows beneath, as the code has it; that it is the paper's
 --                               row: `proofs/Rows/WorkedRow.antt`
---     tableClusters t           the clusters of a table's rows, the largest first
 --     againTable W t c          the table with every row that contains c worked out again, by the paper's formulas
 --     Ready, Workable           what each may count on
 -- Assumes nothing.
@@ -16,9 +15,10 @@ use Rattle.laws.specs.Limits.{Width, weightMax, degreeLow, degreeHigh, rowCap, 
 use Rattle.laws.specs.State.{scored}
 use Rattle.trees.specs.Rescored.{workedOut, again}
 use Rattle.kept.specs.declared.table.Table.{Table}
-use Rattle.kept.specs.View.{rowAt, entryAt, entriesOf, tableOf}
-use Rattle.kept.specs.Fit.{keepsRules, fitEntry, blankFrom}
-use Rattle.kept.specs.Arrays.{clustersDown, Rising, Sized}
+use Rattle.kept.specs.View.{rowAt, entryAt, entriesOf, clustersIn, clustersDown, tableOf}
+use Rattle.kept.specs.Blank.{isEmpty}
+use Rattle.kept.specs.Fit.{keepsRules, fitEntry}
+use Rattle.kept.specs.Arrays.{Rising, Sized}
 use Rattle.table.specs.declared.tally.Tally.{Tally}
 use Rattle.table.specs.Tally.{tallyOf, ownTally}
 use Rattle.table.specs.Searched.{Starts, Long, Sound}
@@ -35,11 +35,8 @@ workedTally W k z i d =
     (cond (single (getD (k .clusters) i 0)) (ownTally 0 z i) (underTally (W .countMax) (ownTally 1 z i) (foundTally W k i d)))
     noTally
 
-abbrev pub tableClusters : Table → List ℕ
-tableClusters t = clustersDown (t .clusters) (t .rows)
-
 abbrev pub againTable : Width → Table → ℕ → Table
-againTable W t c = tableOf (t .degree) (again (workedOut W (t .degree) (tableClusters t)) c (entriesOf t (t .rows)))
+againTable W t c = tableOf (t .degree) (again (workedOut W (t .degree) (clustersIn t)) c (entriesOf t (t .rows)))
 
 -- ---- what working out one row may count on
 -- the rows beneath row i are sound among all rows, of which the columns have at least those up to row i
@@ -67,6 +64,6 @@ pub record Workable (W : Width) (t : Table) (c : ℕ) : Type 0 where
   pub high : t .degree ≤ degreeHigh
   pub rising : Rising (t .clusters) (t .rows)
   pub rules : (i : ℕ) → i < t .rows → T (keepsRules W (rowAt t i))
-  pub fit : (i : ℕ) → i < t .rows → (T (inside c (rowAt t i .cluster)) → ⊥) → T (fitEntry W (tableClusters t) (entryAt t i))
+  pub fit : (i : ℕ) → i < t .rows → (T (inside c (rowAt t i .cluster)) → ⊥) → T (fitEntry W (clustersIn t) (entryAt t i))
   pub words : (i : ℕ) → i < t .rows → getD (t .«members_low») i 0 < wordValues
-  pub blank : T (blankFrom t (t .rows) (rowCap - t .rows))
+  pub blank : (i : ℕ) → t .rows ≤ i → i < rowCap → T (isEmpty (entryAt t i))

@@ -5,7 +5,7 @@
 // Passed on from the crate `kept`:
 //     Table, zero_table         one value with room for 128 rows, and the one that is all zero
 //     is_fit                    every sentence of document 01's "fit", as one test
-//     row_of, leaf_set          where a cluster's row stands, and the union of all clusters
+//     place_of, leaf_set        where a cluster's row stands, and the union of all clusters
 mod listing;
 mod making;
 mod rescoring;
@@ -16,7 +16,7 @@ mod working;
 pub use kept::Table;
 pub use kept::is_fit;
 pub use kept::leaf_set;
-pub use kept::row_of;
+pub use kept::place_of;
 pub use kept::zero_table;
 pub use making::Built;
 pub use making::build;

@@ -9,7 +9,7 @@ use cluster::broken_rule;
 use cluster::is_kept;
 use kept::Table;
 use kept::is_fit;
-use kept::row_of;
+use kept::place_of;
 ghost use mathlib.Core.Path.{_≡_};
 ghost use Rattle.table.specs.Rescore.{isScore, changingOf, rescoreTable};
 
@@ -43,7 +43,7 @@ pub fn rescore(given: Table, cluster: u64, weight: i32, state: u8) -> Rescored
             table: given,
         };
     }
-    let at = row_of(given, cluster);
+    let at = place_of(given, cluster);
     if given.rows <= at {
         return Rescored {
             answer: Answer::Refused(Refusal::NoRow),

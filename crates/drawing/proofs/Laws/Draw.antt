@@ -24,6 +24,7 @@ use mir.Syntax.{w64}
 use mir.Val.{SFits, toZ, ofZ}
 use Rattle.laws.specs.Limits.{narrow, rowCap}
 use Rattle.laws.proofs.Tests.{T-and, true-T, neq→}
+use Rattle.laws.proofs.Width.{narrow-facts}
 use Rattle.cluster.specs.declared.refusal.Refusal.the-variants.{NoTree, Unfit}
 use Rattle.trees.specs.Tree.{isTree}
 use Rattle.kept.specs.declared.table.Table.{Table}
@@ -42,9 +43,9 @@ abbrev word : ℤ → ℤ
 word z = toZ w64 (ofZ w64 z)
 
 -- ---- a fit table
-module _ (t : Table) (fit : isFit t ≡ true) where
-  facts : FitTable t
-  facts = isFit→ t (true-T fit)
+module _ (t : Table) (fit : isFit narrow t ≡ true) where
+  facts : FitTable narrow t
+  facts = isFit→ narrow narrow-facts t (true-T fit)
 
   pub rows-capped : t .rows ≤ rowCap
   rows-capped = facts .capped
@@ -128,14 +129,14 @@ module _ (t : Table) (at : ℕ) (e : at ≡ leafRow t) where
 
 -- ---- the refusals
 module _ (t : Table) where
-  pub refusal-unfit : isFit t ≡ false → drawRefusal t ≡ some Unfit
+  pub refusal-unfit : isFit narrow t ≡ false → drawRefusal t ≡ some Unfit
   refusal-unfit e = rw e
 
-  pub refusal-no-tree : isFit t ≡ true → hasTree t ≡ false → drawRefusal t ≡ some NoTree
+  pub refusal-no-tree : isFit narrow t ≡ true → hasTree t ≡ false → drawRefusal t ≡ some NoTree
   refusal-no-tree e f = rw (e, f)
 
-  pub refusal-marks : isFit t ≡ true → hasTree t ≡ true → isDrawable t ≡ false → drawRefusal t ≡ some Unfit
+  pub refusal-marks : isFit narrow t ≡ true → hasTree t ≡ true → isDrawable t ≡ false → drawRefusal t ≡ some Unfit
   refusal-marks e f g = rw (e, f, g)
 
-  pub refusal-none : isFit t ≡ true → hasTree t ≡ true → isDrawable t ≡ true → drawRefusal t ≡ none
+  pub refusal-none : isFit narrow t ≡ true → hasTree t ≡ true → isDrawable t ≡ true → drawRefusal t ≡ none
   refusal-none e f g = rw (e, f, g)

@@ -16,7 +16,7 @@ use lib.IntN.{ℤ, pos, _+ℤ_, +ℤ-comm, +ℤ-idl}
 use lib.ListN.{length, getD, length-append}
 use Rattle.laws.specs.State.{scored}
 use Rattle.laws.specs.Limits.{wordValues}
-use Rattle.kept.specs.Fit.{hasMark}
+use Rattle.kept.specs.Marks.{hasMark}
 use Rattle.kept.proofs.Laws.Marks.{mark-high}
 use Rattle.drawing.specs.Marked.{membersTo, scoredTo, weightTo}
 

@@ -17,11 +17,13 @@ use Rattle.laws.specs.Limits.{narrow, rowCap}
 use Rattle.laws.specs.Lists.{Once}
 use Rattle.laws.proofs.Once.{once-append}
 use Rattle.laws.proofs.Tests.{true-T}
+use Rattle.laws.proofs.Width.{narrow-facts}
 use Rattle.trees.specs.Rows.{cl}
 use Rattle.kept.specs.declared.table.Table.{Table}
 use Rattle.kept.specs.View.{entriesOf, entryAt}
-use Rattle.kept.specs.Fit.{hasMark, isFit}
+use Rattle.kept.specs.Fit.{isFit}
 use Rattle.kept.specs.Rows.{shownRows}
+use Rattle.kept.specs.Marks.{hasMark}
 use Rattle.kept.proofs.Laws.Fit.{isFit→, fit→}
 use Rattle.drawing.specs.Marked.{membersTo}
 use Rattle.drawing.specs.Draw.{leafMarks, membersOf}
@@ -53,15 +55,15 @@ module _ (cs : List ℕ) (m : ℕ) where
       go false o = rw append-nil o
 
 -- ---- in a fit table
-module _ (t : Table) (e : isFit t ≡ true) where
+module _ (t : Table) (e : isFit narrow t ≡ true) where
   shown : {i : ℕ} → i < shownRows t → i < t .rows
   shown h = lt-of-lt-of-le h (min-le-left (t .rows) rowCap)
 
   pub members-once : Once (membersOf t)
-  members-once = membersTo-once (t .clusters) (leafMarks t) (shownRows t) (λ i j h k. isFit→ t (true-T e) .rising i j h (shown k))
+  members-once = membersTo-once (t .clusters) (leafMarks t) (shownRows t) (λ i j h k. isFit→ narrow narrow-facts t (true-T e) .rising i j h (shown k))
 
   pub members-sound : (c : ℕ) → Mem c (membersOf t) → (c ≢ 0) × (c < 2 ^ narrow .taxa)
   members-sound c k =
       let q = membersTo-mem (t .clusters) (leafMarks t) (shownRows t) c k in
-      let f = fit→ narrow (map cl (entriesOf t (t .rows))) (entryAt t (q .0)) (isFit→ t (true-T e) .fit (q .0) (shown (q .1))) in
+      let f = fit→ narrow (map cl (entriesOf t (t .rows))) (entryAt t (q .0)) (isFit→ narrow narrow-facts t (true-T e) .fit (q .0) (shown (q .1))) in
       (λ z. f .rules .has-taxon (sym (q .2) ∙ z), rw (q .2) (f .width))

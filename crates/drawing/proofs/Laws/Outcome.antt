@@ -97,7 +97,7 @@ module _ (t : Table) (l : List ℕ) where
 
 -- ---- a table of which a tree is drawn
 pub record Drawable (t : Table) : Type 0 where
-  pub fit : isFit t ≡ true
+  pub fit : isFit narrow t ≡ true
   pub row : leafRow t < t .rows
   pub tree : isTree (narrow .taxa) (t .degree) (leafSet t) (membersOf t) ≡ true
 
@@ -115,9 +115,9 @@ module _ (t : Table) where
 
   pub drawable : drawRefusal t ≡ none → Drawable t
   drawable e =
-      let q = none-holds (isFit t) (hasTree t) (isDrawable t) e in
+      let q = none-holds (isFit narrow t) (hasTree t) (isDrawable t) e in
       let b = T-and (areScored t) areTree (T-and (areScored t && areTree) (weighsBest t) (q .2) .0) in
-      record { fit = T-true (isFit t) (q .0); row = hasTree→ t (q .1) .0; tree = T-true areTree (b .1) }
+      record { fit = T-true (isFit narrow t) (q .0); row = hasTree→ t (q .1) .0; tree = T-true areTree (b .1) }
 
 module _ {t : Table} (d : Drawable t) where
   pub tree-requires : {s : List ℕ} {n k : ℕ} → Front (membersOf t) n s → n ≤ k → (length (take n s) ≤ k) × Narrow (take n s)

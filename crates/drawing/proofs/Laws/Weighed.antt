@@ -19,7 +19,7 @@ use mir.Syntax.{w32, w64}
 use mir.Val.{SFits, toZ, ofZ}
 use Rattle.laws.specs.Limits.{rowCap}
 use Rattle.laws.proofs.Integers.{abs-sum-le, mag-le-abs}
-use Rattle.kept.specs.Fit.{hasMark}
+use Rattle.kept.specs.Marks.{hasMark}
 use Rattle.drawing.specs.Marked.{weightTo}
 use Rattle.drawing.proofs.Laws.Marked.{weightTo-takes, weightTo-skips}
 

@@ -1,38 +1,21 @@
 -- One field of all rows of a table, as an array: what it holds at a row, past the rows, and when an array is such a column.
---     entries-length, entries-mem, mem-entries     the first rows as entries: how many, and which
 --     length-column, column-past     its length, and what stands past the rows
 --     column-first, column-rest      the entry in front is the last row; the others stay where they are
 --     column-at, column-is           the column of a table's own rows
 -- Assumes nothing.
 use mathlib.Core.Path.{_≡_, refl, sym, ap, _∙_, subst}
 use mathlib.Core.List.{List, [], _∷_, _++_, map, reverse, reverse-cons, append-assoc}
-use mathlib.Core.List.{List·Memᴰ as Mem, List·Memᴰ·head as here, List·Memᴰ·tail as there}
 use Prim.Native.Nat.{ℕ, zero, suc, _+_, _-_, _≤_, _<_}
 use native.Mathlib.Decide.{decLe}
 use native.Mathlib.Omega.{arith}
 use lib.ListN.{getD, length, replicate, length-map, length-reverse, length-replicate, length-append, List·getD-append}
 use lib.Seq.{ext-getD, getD-append-add, getD-append-seam}
+use Rattle.laws.specs.Limits.{rowCap}
+use Rattle.laws.proofs.Down.{down-length}
 use Rattle.trees.specs.Rows.{Entry}
 use Rattle.trees.specs.Result.{Result}
 use Rattle.kept.specs.declared.table.Table.{Table}
-use Rattle.laws.specs.Limits.{rowCap}
 use Rattle.kept.specs.View.{entryAt, entriesOf, column}
-
-pub entries-length : (t : Table) (n : ℕ) → length (entriesOf t n) ≡ n
-entries-length t zero = refl
-entries-length t (suc n) = ap suc (entries-length t n)
-
-pub entries-mem : (t : Table) (n : ℕ) (e : Entry Result) → Mem e (entriesOf t n) → (j : ℕ) × (j < n) × (e ≡ entryAt t j)
-entries-mem t (suc n) e (here p) = (n, omega arith, p)
-entries-mem t (suc n) e (there m) = let q = entries-mem t n e m in (q .0, omega (arith, q .1), q .2)
-
-pub mem-entries : (t : Table) (n j : ℕ) → j < n → Mem (entryAt t j) (entriesOf t n)
-mem-entries t zero j h = absurd (omega arith)
-mem-entries t (suc n) j h = go (decLe n j) (mem-entries t n j)
-  where
-    go : Dec (n ≤ j) → (j < n → Mem (entryAt t j) (entriesOf t n)) → Mem (entryAt t j) (entriesOf t (suc n))
-    go (yes k) ih = here (let e : j ≡ n = omega arith in ap (entryAt t) e)
-    go (no k) ih = there (ih (omega arith))
 
 module _ {A : Type 0} (z : A) (f : Entry Result → A) where
   abbrev front : List (Entry Result) → List A
@@ -80,7 +63,7 @@ module _ {A : Type 0} (z : A) (f : Entry Result → A) where
   column-at t (suc n) i h = go (decLe n i) (λ l. column-at t n i l)
     where
       len : length (entriesOf t n) ≡ n
-      len = entries-length t n
+      len = down-length (entryAt t) n
 
       go : Dec (n ≤ i) → (i < n → getD (column z f (entriesOf t n)) i z ≡ f (entryAt t i))
           → getD (column z f (entriesOf t (suc n))) i z ≡ f (entryAt t i)
@@ -100,7 +83,7 @@ module _ {A : Type 0} (z : A) (f : Entry Result → A) where
       (s ∙ sym (length-column (entriesOf t n) (subst (λ (k : ℕ). k ≤ rowCap) (sym (len n)) h))) each
     where
       len : (k : ℕ) → length (entriesOf t k) ≡ k
-      len = entries-length t
+      len = down-length (entryAt t)
 
       by : (i : ℕ) → Dec (n ≤ i) → getD l i z ≡ getD (column z f (entriesOf t n)) i z
       by i (yes k) = past i k ∙ sym (column-past (entriesOf t n) i (omega (arith, len n)))

@@ -35,6 +35,7 @@ use mir.Val.{SFits, toZ, ofZ}
 use Rattle.laws.specs.Cluster.{size}
 use Rattle.laws.specs.Limits.{narrow, rowCap}
 use Rattle.laws.proofs.Tests.{true-T}
+use Rattle.laws.proofs.Width.{narrow-facts}
 use Rattle.cluster.specs.declared.refusal.Answer.{Answer}
 use Rattle.cluster.specs.declared.refusal.Answer.the-variants.{Done, Refused}
 use Rattle.cluster.specs.declared.refusal.Refusal.{Refusal}
@@ -69,10 +70,10 @@ size-le-narrow c h = ones-le 32 c h
 
 module _ {t : Table} (d : Drawable t) where
   leaf-row : FitRow narrow (map cl (entriesOf t (t .rows))) (rowAt t (leafRow t)) (resultAt t (leafRow t))
-  leaf-row = fit→ narrow (map cl (entriesOf t (t .rows))) (entryAt t (leafRow t)) (isFit→ t (true-T (d .fit)) .fit (leafRow t) (d .row))
+  leaf-row = fit→ narrow (map cl (entriesOf t (t .rows))) (entryAt t (leafRow t)) (isFit→ narrow narrow-facts t (true-T (d .fit)) .fit (leafRow t) (d .row))
 
   pub leaf-row-lt : leafRow t < rowCap
-  leaf-row-lt = omega (arith, d .row, isFit→ t (true-T (d .fit)) .capped)
+  leaf-row-lt = omega (arith, d .row, isFit→ narrow narrow-facts t (true-T (d .fit)) .capped)
 
   pub tree-count-le : resultAt t (leafRow t) .count ≤ 4294967295
   tree-count-le = leaf-row .ranged .counted
@@ -81,8 +82,8 @@ module _ {t : Table} (d : Drawable t) where
   tree-best-le = go (ℕ-discrete (resultAt t (leafRow t) .count) 0)
     where
       go : Dec (resultAt t (leafRow t) .count ≡ 0) → natAbs (resultAt t (leafRow t) .best) ≤ 63000000
-      go (yes e) = omega (arith, ap natAbs (leaf-row .told .none e .2))
-      go (no n) = omega (arith, leaf-row .told .light n, size-le-narrow (rowAt t (leafRow t) .cluster) (leaf-row .width))
+      go (yes e) = omega (arith, ap natAbs (leaf-row .matched .none e .2))
+      go (no n) = omega (arith, leaf-row .matched .light n, size-le-narrow (rowAt t (leafRow t) .cluster) (leaf-row .width))
 
   tree-best-fits : SFits w64 (resultAt t (leafRow t) .best)
   tree-best-fits = near-fits (resultAt t (leafRow t) .best) 1 (lit≤ tt) (omega (arith, tree-best-le))
@@ -114,7 +115,7 @@ tableLine-length-le d t h = go (drawRefusal t) refl
   where
     go : (x : Option Refusal) → drawRefusal t ≡ x → length (drawnLine d t x) ≤ lineCap
     go (some f) e =
-        refusedLine-length-le d f (omega arith) (omega (arith, ap placeIn (sym e) ∙ no-place (isFit t) (hasTree t) (isDrawable t)))
+        refusedLine-length-le d f (omega arith) (omega (arith, ap placeIn (sym e) ∙ no-place (isFit narrow t) (hasTree t) (isDrawable t)))
     go none e =
         let v = resultAt t (leafRow t) in
         let k = drawable t e in

@@ -5,6 +5,7 @@ use mathlib.Core.Path.{_≡_}
 use mathlib.Core.Bool.{true, false}
 use Prim.Native.Nat.{ℕ}
 use lib.IntN.{ℤ}
+use Rattle.laws.specs.Limits.{narrow}
 use Rattle.cluster.specs.declared.refusal.Answer.the-variants.{Done, Refused}
 use Rattle.cluster.specs.declared.refusal.Refusal.the-variants.{Unfit, NoRow, BadScore}
 use Rattle.kept.specs.declared.table.Table.{Table}
@@ -13,11 +14,11 @@ use Rattle.kept.specs.Rows.{hasRow}
 use Rattle.table.specs.Rescore.{changingOf, isScore, newTable, rescoreTable}
 
 module _ (t : Table) (c : ℕ) (z : ℤ) (s : ℕ) where
-  pub rescore-unfit : isFit t ≡ false → changingOf (record { answer = Refused Unfit; table = t }) ≡ rescoreTable t c z s
+  pub rescore-unfit : isFit narrow t ≡ false → changingOf (record { answer = Refused Unfit; table = t }) ≡ rescoreTable t c z s
   unfolding rescoreTable
   rescore-unfit a = rw a
 
-  module _ (a : isFit t ≡ true) where
+  module _ (a : isFit narrow t ≡ true) where
     pub rescore-no-row : hasRow t c ≡ false → changingOf (record { answer = Refused NoRow; table = t }) ≡ rescoreTable t c z s
     unfolding rescoreTable
     rescore-no-row b = rw (a, b)
@@ -27,7 +28,7 @@ module _ (t : Table) (c : ℕ) (z : ℤ) (s : ℕ) where
       unfolding rescoreTable
       rescore-bad-score e = rw (a, b, e)
 
-      pub rescore-done : isScore z s ≡ true → (u : Table) → u ≡ newTable t c z s
+      pub rescore-done : isScore z s ≡ true → (u : Table) → u ≡ newTable narrow t c z s
           → changingOf (record { answer = Done 0; table = u }) ≡ rescoreTable t c z s
       unfolding rescoreTable
       rescore-done e u q = rw (a, b, e, q)

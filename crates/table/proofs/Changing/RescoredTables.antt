@@ -20,7 +20,7 @@ use lib.Dec.{T}
 use lib.IntN.{ℤ}
 use lib.ListN.{length, length-map}
 use Rattle.laws.specs.Cluster.{inside}
-use Rattle.laws.specs.Limits.{narrow}
+use Rattle.laws.specs.Limits.{Width, narrow}
 use Rattle.laws.specs.Row.{Row}
 use Rattle.cluster.specs.declared.refusal.Answer.{Answer}
 use Rattle.cluster.specs.declared.refusal.Refusal.{Refusal}
@@ -32,10 +32,10 @@ use Rattle.trees.specs.Result.{Result}
 use Rattle.trees.specs.Rescored.{workedOut, putScore, againIf, again, rescored}
 use Rattle.trees.proofs.Rescore.{put-cluster, put-other, rescored-clusters}
 use Rattle.kept.specs.declared.table.Table.{Table}
-use Rattle.kept.specs.View.{rowAt, entryAt, entriesOf}
+use Rattle.kept.specs.View.{rowAt, entryAt, entriesOf, clustersIn}
 use Rattle.kept.specs.Fit.{isFit}
 use Rattle.kept.specs.Rows.{hasRow}
-use Rattle.kept.proofs.Laws.Column.{entries-length}
+use Rattle.laws.proofs.Down.{down-length}
 use Rattle.kept.proofs.Laws.View.{entries-table}
 use Rattle.table.specs.declared.rescoring.Rescored.{Rescored}
 use Rattle.table.specs.Rescore.{Changing, changingOf, isScore, rescoreRefusal, newTable, changedOf, rescoreTable}
@@ -62,7 +62,7 @@ WhyBy fit row score NoRoom = ⊥
 
 -- f is the refusal of the rescoring: 8 (fitness only), 9, 10 in that order, and no other
 abbrev pub WhyNot : Table → ℕ → ℤ → ℕ → Refusal → Type 0
-WhyNot t c z s f = WhyBy (isFit t) (hasRow t c) (isScore z s) f
+WhyNot t c z s f = WhyBy (isFit narrow t) (hasRow t c) (isScore z s) f
 
 tells : (fit row score : Bool) (f : Refusal) → WhyBy fit row score f → refusedBy fit row score ≡ some f
 tells false a b Unfit w = refl
@@ -88,8 +88,8 @@ module _ (t : Table) (c : ℕ) (z : ℤ) (s : ℕ) where
   unfolding rescoreTable
   rescore-of e = ap (changedOf t c z s) e
 
-  pub rescore-accepts-iff : (rescoreRefusal t c z s ≡ none) ↔ (T (isFit t) × T (hasRow t c) × T (isScore z s))
-  rescore-accepts-iff = (to (isFit t) (hasRow t c) (isScore z s), λ k. from (isFit t) (hasRow t c) (isScore z s) (k .0) (k .1) (k .2))
+  pub rescore-accepts-iff : (rescoreRefusal t c z s ≡ none) ↔ (T (isFit narrow t) × T (hasRow t c) × T (isScore z s))
+  rescore-accepts-iff = (to (isFit narrow t) (hasRow t c) (isScore z s), λ k. from (isFit narrow t) (hasRow t c) (isScore z s) (k .0) (k .1) (k .2))
     where
       to : (fit row score : Bool) → refusedBy fit row score ≡ none → T fit × T row × T score
       to true true true e = (tt, tt, tt)
@@ -101,7 +101,7 @@ module _ (t : Table) (c : ℕ) (z : ℤ) (s : ℕ) where
       from true true true x y w = refl
 
   pub rescore-refuses-iff : (f : Refusal) → (rescoreRefusal t c z s ≡ some f) ↔ WhyNot t c z s f
-  rescore-refuses-iff f = (told (isFit t) (hasRow t c) (isScore z s), tells (isFit t) (hasRow t c) (isScore z s) f)
+  rescore-refuses-iff f = (told (isFit narrow t) (hasRow t c) (isScore z s), tells (isFit narrow t) (hasRow t c) (isScore z s) f)
     where
       told : (fit row score : Bool) → refusedBy fit row score ≡ some f → WhyBy fit row score f
       told true true true e = absurd (none-some e)
@@ -154,36 +154,36 @@ agree-at c t u (suc n) k i h e = go (ℕ-discrete i n) (agree-at c t u n (k .1) 
     go (yes q) ih = ap (entryAt u) q ∙ k .0 (subst (λ (j : ℕ). inside c (rowAt t j .cluster) ≡ false) q e) ∙ ap (entryAt t) (sym q)
     go (no q) ih = ih (omega (arith, q)) e
 
-module _ (t : Table) (c : ℕ) (z : ℤ) (s : ℕ) where
+module _ (W : Width) (t : Table) (c : ℕ) (z : ℤ) (s : ℕ) where
   abbrev entries : List (Entry Result)
   entries = entriesOf t (t .rows)
 
   abbrev changed : List (Entry Result)
-  changed = rescored narrow (t .degree) (map cl entries) c z s entries
+  changed = rescored W (t .degree) (clustersIn t) c z s entries
 
   changed-length : length changed ≡ t .rows
   changed-length =
       sym (length-map changed cl)
-      ∙ ap (λ (cs : List ℕ). length cs) (rescored-clusters narrow (t .degree) (map cl entries) c z s entries)
+      ∙ ap (λ (cs : List ℕ). length cs) (rescored-clusters W (t .degree) (clustersIn t) c z s entries)
       ∙ length-map entries cl
-      ∙ entries-length t (t .rows)
+      ∙ down-length (entryAt t) (t .rows)
 
-  entries-changed : entriesOf (newTable t c z s) (t .rows) ≡ changed
-  entries-changed = ap (entriesOf (newTable t c z s)) (sym changed-length) ∙ entries-table (t .degree) changed
+  entries-changed : entriesOf (newTable W t c z s) (t .rows) ≡ changed
+  entries-changed = ap (entriesOf (newTable W t c z s)) (sym changed-length) ∙ entries-table (t .degree) changed
 
-  pub new-keeps-others : (i : ℕ) → i < t .rows → inside c (rowAt t i .cluster) ≡ false → entryAt (newTable t c z s) i ≡ entryAt t i
+  pub new-keeps-others : (i : ℕ) → i < t .rows → inside c (rowAt t i .cluster) ≡ false → entryAt (newTable W t c z s) i ≡ entryAt t i
   new-keeps-others =
-      agree-at c t (newTable t c z s) (t .rows) (subst (Agree c entries) (sym entries-changed)
-      (rescored-agree (workedOut narrow (t .degree) (map cl entries)) c z s entries))
+      agree-at c t (newTable W t c z s) (t .rows) (subst (Agree c entries) (sym entries-changed)
+      (rescored-agree (workedOut W (t .degree) (clustersIn t)) c z s entries))
 
-  -- whatever the outcome
-  pub rescore-keeps-others : (i : ℕ) → i < t .rows → inside c (rowAt t i .cluster) ≡ false
-      → entryAt (rescoreTable t c z s .table) i ≡ entryAt t i
-  rescore-keeps-others i h e = go (rescoreRefusal t c z s) refl
-    where
-      go : (x : Option Refusal) → rescoreRefusal t c z s ≡ x → entryAt (rescoreTable t c z s .table) i ≡ entryAt t i
-      go none q = ap (λ (m : Changing). entryAt (m .table) i) (rescore-of t c z s q) ∙ new-keeps-others i h e
-      go (some f) q = ap (λ (m : Changing). entryAt (m .table) i) (rescore-of t c z s q)
+-- whatever the outcome
+pub rescore-keeps-others : (t : Table) (c : ℕ) (z : ℤ) (s : ℕ) (i : ℕ) → i < t .rows → inside c (rowAt t i .cluster) ≡ false
+    → entryAt (rescoreTable t c z s .table) i ≡ entryAt t i
+rescore-keeps-others t c z s i h e = go (rescoreRefusal t c z s) refl
+  where
+    go : (x : Option Refusal) → rescoreRefusal t c z s ≡ x → entryAt (rescoreTable t c z s .table) i ≡ entryAt t i
+    go none q = ap (λ (m : Changing). entryAt (m .table) i) (rescore-of t c z s q) ∙ new-keeps-others narrow t c z s i h e
+    go (some f) q = ap (λ (m : Changing). entryAt (m .table) i) (rescore-of t c z s q)
 
 -- ---- one outcome
 

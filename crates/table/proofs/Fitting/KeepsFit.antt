@@ -35,8 +35,11 @@ use Rattle.trees.proofs.Formula.Kind.{mapE}
 use Rattle.trees.proofs.Ties.Marks.{marks-lt, marks-inj}
 use Rattle.trees.proofs.Bounds.TupleBound.{entries-le}
 use Rattle.trees.proofs.Counting.Worked.{markIn, lengthIf, trueResult, AllCounted, worked-encode}
-use Rattle.kept.specs.Fit.{isBlank, isMarkedIn, keepsRules, fitEntry}
-use Rattle.kept.proofs.Laws.Fit.{Ranged, Told, rules→, →fit}
+use Rattle.kept.specs.Fit.{keepsRules, fitEntry}
+use Rattle.kept.specs.Marks.{isMarkedIn}
+use Rattle.kept.specs.Blank.{isBlank}
+use Rattle.kept.proofs.Laws.Results.{Ranged, Matched}
+use Rattle.kept.proofs.Laws.Fit.{rules→, →fit}
 use Rattle.table.specs.Searched.{GoodRow}
 use Rattle.table.specs.Tally.{decoded}
 use Rattle.table.proofs.Tallies.Decoded.{encode-decoded, decoded-keeps}
@@ -138,7 +141,7 @@ fields-range limit n h k = go (past limit n)
 
 module _ (limit : ℕ) (one-limit : 1 ≤ limit) (cs : List ℕ) (falls : Falling cs) (r : Row) (listed : Mem (r .cluster) cs) (n : ℕ) where
   -- the members of a rooted result, as marks
-  rooted-told : (v : Option Sol) → RootedSol cs (r .cluster) v → Told cs r (encodeSol limit n v)
+  rooted-told : (v : Option Sol) → RootedSol cs (r .cluster) v → Matched cs r (encodeSol limit n v)
   rooted-told none k = record {
     below = pow-pos (length cs);
     none = λ e. (refl, refl, refl);
@@ -198,7 +201,7 @@ module _ (W : Width) (one-limit : 1 ≤ W .countMax) (d : ℕ) (cs : List ℕ) (
         ranged = encode-ranged W one-limit cs r (trueResult d cs r rows .0) (trueResult d cs r rows .1) rooted
             (length-le (isScored r && not (single (r .cluster)))) (no-length (isScored r) (single (r .cluster)))
             (no-result (isScored r) (single (r .cluster)));
-        told =
+        matched =
             rooted-told (W .countMax) one-limit cs (o .falls) r (o .listed) (trueResult d cs r rows .0) (trueResult d cs r rows .1) rooted;
       }))
     where

@@ -22,6 +22,7 @@ use Rattle.laws.specs.Limits.{Width, narrow, WidthFacts, degreeLow, degreeHigh,
 use Rattle.laws.specs.Row.{Row}
 use Rattle.laws.proofs.Appended.{map-through}
 use Rattle.laws.proofs.Cluster.{zero-inside}
+use Rattle.laws.proofs.Down.{down-mem}
 use Rattle.laws.proofs.Tests.{T-true}
 use Rattle.laws.proofs.Width.{narrow-facts}
 use Rattle.cluster.specs.declared.refusal.Answer.{Answer}
@@ -39,13 +40,13 @@ use Rattle.trees.specs.Rescored.{workedOut, againIf, again}
 use Rattle.trees.specs.Kind.{workedFrom}
 use Rattle.trees.proofs.Built.{worked-is-built}
 use Rattle.kept.specs.declared.table.Table.{Table}
-use Rattle.kept.specs.View.{rowAt, entryAt, tableOf}
+use Rattle.kept.specs.View.{rowAt, entryAt, clustersIn, tableOf}
 use Rattle.kept.specs.Fit.{keepsRules}
-use Rattle.kept.specs.Arrays.{clustersDown, Rising}
-use Rattle.kept.proofs.Laws.Column.{mem-entries}
-use Rattle.kept.proofs.Laws.Marks.{clusters-are, falling-ascends}
+use Rattle.kept.specs.Arrays.{Rising}
+use Rattle.kept.proofs.Laws.Blank.{blank→empty}
+use Rattle.kept.proofs.Laws.Fit.{entries-rising}
 use Rattle.kept.proofs.Laws.Through.{through-ext}
-use Rattle.kept.proofs.Laws.View.{entries-table, table-sized, table-blank}
+use Rattle.kept.proofs.Laws.View.{entries-table, table-sized, table-past}
 use Rattle.table.specs.declared.listing.Listed.{Listed}
 use Rattle.table.specs.declared.listing.Order.{Order}
 use Rattle.table.specs.declared.making.Built.{Built}
@@ -112,8 +113,8 @@ module _ (W : Width) (asked : WidthFacts W) (d : ℕ) (rs : List Row) (k : Build
   count : length es ≡ length rs
   count = length-map rs unworked
 
-  same-clusters : clustersDown (table .clusters) (length es) ≡ map cl es
-  same-clusters = sym (clusters-are table (length es)) ∙ ap (map cl) (entries-table d es)
+  same-clusters : clustersIn table ≡ map cl es
+  same-clusters = ap (map cl) (entries-table d es)
 
   pub again-is : againTable W table 0 ≡ tableOf d (builtTable W d rs)
   again-is =
@@ -127,12 +128,12 @@ module _ (W : Width) (asked : WidthFacts W) (d : ℕ) (rs : List Row) (k : Build
   rising : Rising (table .clusters) (length es)
   rising = record {
     long = omega (arith, table-sized d es room .clusters, room);
-    up = falling-ascends (table .clusters) (length es) (rw (same-clusters, unworked-clusters rs) (k .facts .falls));
+    up = entries-rising table (rw (same-clusters, unworked-clusters rs) (k .facts .falls));
   }
 
   -- a row of the table is one of the rows, with no results
   at-row : (i : ℕ) → i < length es → (r : Row) × Mem r rs × (unworked r ≡ entryAt table i)
-  at-row i h = Memᴰ·of-map unworked rs (subst (Mem (entryAt table i)) (entries-table d es) (mem-entries table (length es) i h))
+  at-row i h = Memᴰ·of-map unworked rs (subst (Mem (entryAt table i)) (entries-table d es) (down-mem (entryAt table) (length es) i h))
 
   pub workable : Workable W table 0
   workable = record {
@@ -145,7 +146,7 @@ module _ (W : Width) (asked : WidthFacts W) (d : ℕ) (rs : List Row) (k : Build
     rules = λ i h. let q = at-row i h in subst (λ (e : Entry Result). T (keepsRules W (e .row))) (q .2) (k .rules (q .0) (q .1));
     fit = λ i h out. absurd (out (zero-inside (rowAt table i .cluster)));
     words = λ i h. omega (arith, ap (λ (e : Entry Result). e .val .members) (at-row i h .2));
-    blank = table-blank d es (rowCap - length es);
+    blank = λ i l m. blank→empty table i (table-past d es i l);
   }
 
 -- ---- the records read and in order

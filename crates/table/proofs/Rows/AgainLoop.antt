@@ -21,13 +21,14 @@ use Rattle.trees.specs.Rows.{Entry}
 use Rattle.trees.specs.Result.{Result}
 use Rattle.trees.specs.Rescored.{workedOut, againIf, again}
 use Rattle.kept.specs.declared.table.Table.{Table}
-use Rattle.kept.specs.View.{rowAt, entryAt, entriesOf, tableOf}
-use Rattle.kept.specs.Fit.{isEmpty}
-use Rattle.kept.proofs.Laws.View.{Blank, empty→blank, blank→empty, blank-past, table-is}
+use Rattle.kept.specs.View.{rowAt, entryAt, entriesOf, clustersIn, tableOf}
+use Rattle.kept.specs.Blank.{isEmpty}
+use Rattle.kept.proofs.Laws.Blank.{Blank, empty→blank, blank→empty, blank-past}
+use Rattle.kept.proofs.Laws.View.{table-is}
 use Rattle.table.specs.declared.tally.Tally.{Tally}
 use Rattle.table.specs.Searched.{Starts}
 use Rattle.table.specs.Tally.{fieldsTally}
-use Rattle.table.specs.Working.{workedTally, tableClusters, againTable, Workable}
+use Rattle.table.specs.Working.{workedTally, againTable, Workable}
 use Rattle.table.specs.Columns.{columnsOf}
 use Rattle.table.proofs.Rows.AgainRow.{Partly, same-row, row-again}
 use Rattle.table.proofs.Rows.Stored.{resultIn, stored, stored-same, stored-other, stored-entries, stored-sized}
@@ -57,10 +58,10 @@ module _ {W : Width} (facts : WidthFacts W) {given : Table} {c : ℕ} (w : Worka
   d = given .degree
 
   abbrev cs : List ℕ
-  cs = tableClusters given
+  cs = clustersIn given
 
   abbrev F : Row → List (Entry Result) → Result
-  F = workedOut W (given .degree) (tableClusters given)
+  F = workedOut W (given .degree) (clustersIn given)
 
   pub partly-start : Partly W given c given 0
   partly-start = record {
@@ -147,7 +148,7 @@ module _ {W : Width} (facts : WidthFacts W) {given : Table} {c : ℕ} (w : Worka
 
     past-blank : (j : ℕ) → given .rows ≤ j → i ≤ j → Blank t j
     past-blank j h l =
-        let b = blank-past given (w .sized) room (w .blank) j h in
+        let b = blank-past given (w .sized) (w .blank) j h in
         empty→blank t j (subst (λ (e : Entry Result). T (isEmpty e)) (sym (p .left j l)) (blank→empty given j b))
 
     pub partly-end : given .rows ≤ i → t ≡ againTable W given c

@@ -17,18 +17,18 @@ use mir.Val.{SFits}
 use Rattle.laws.specs.Limits.{Width, WidthFacts, weightMax, wordValues}
 use Rattle.laws.specs.Lists.{Falling}
 use Rattle.laws.specs.Row.{Row}
+use Rattle.laws.proofs.Down.{down-length, down-mem}
 use Rattle.trees.specs.Rows.{Entry}
 use Rattle.trees.specs.Result.{Result}
 use Rattle.trees.specs.Rescored.{workedOut, again}
 use Rattle.kept.specs.declared.table.Table.{Table}
-use Rattle.kept.specs.View.{rowAt, entryAt, entriesOf}
-use Rattle.kept.specs.Arrays.{clustersDown, Rising, Sized}
-use Rattle.kept.proofs.Laws.Column.{mem-entries}
+use Rattle.kept.specs.View.{rowAt, entryAt, entriesOf, clustersIn, clustersDown}
+use Rattle.kept.specs.Arrays.{Rising, Sized}
 use Rattle.kept.proofs.Laws.Fit.{cluster-pos}
-use Rattle.kept.proofs.Laws.Marks.{length-clustersDown}
+use Rattle.kept.proofs.Laws.Clusters.{clusters-are}
 use Rattle.table.specs.Searched.{Starts, GoodRow, Sound}
 use Rattle.table.specs.Tally.{fieldsTally}
-use Rattle.table.specs.Working.{workedTally, tableClusters, Ready, Workable}
+use Rattle.table.specs.Working.{workedTally, Ready, Workable}
 use Rattle.table.specs.Columns.{columnsOf, rowOf, fieldsOf}
 use Rattle.table.proofs.Fitting.KeepsFit.{Over}
 use Rattle.table.proofs.Rows.Workable.{given-rules, cluster-word, weight-fits, given-full, given-falls}
@@ -46,7 +46,7 @@ pub record Partly (W : Width) (given : Table) (c : ℕ) (t : Table) (i : ℕ) : 
   pub weights : t .weights ≡ given .weights
   pub states : t .states ≡ given .states
   pub sized : Sized t
-  pub done : entriesOf t i ≡ again (workedOut W (given .degree) (tableClusters given)) c (entriesOf given i)
+  pub done : entriesOf t i ≡ again (workedOut W (given .degree) (clustersIn given)) c (entriesOf given i)
   pub left : (j : ℕ) → i ≤ j → entryAt t j ≡ entryAt given j
   pub words : (j : ℕ) → j < given .rows → getD (t .«members_low») j 0 < wordValues
 
@@ -55,15 +55,21 @@ module _ {W : Width} (facts : WidthFacts W) {given : Table} {c : ℕ} (w : Worka
   d = given .degree
 
   abbrev cs : List ℕ
-  cs = tableClusters given
+  cs = clustersIn given
 
   abbrev F : Row → List (Entry Result) → Result
-  F = workedOut W (given .degree) (tableClusters given)
+  F = workedOut W (given .degree) (clustersIn given)
 
   module _ {t : Table} {i : ℕ} (p : Partly W given c t i) where
     -- what is known of the given clusters is known of those of t
     clusters-same : (P : List ℕ → Type 0) → P (given .clusters) → P (t .clusters)
     clusters-same P h = subst P (sym (p .clusters)) h
+
+    same-clusters : clustersDown (t .clusters) (given .rows) ≡ clustersIn given
+    same-clusters = ap (λ (l : List ℕ). clustersDown l (given .rows)) (p .clusters) ∙ sym (clusters-are given (given .rows))
+
+    among-same : (P : List ℕ → Type 0) → P (clustersIn given) → P (clustersDown (t .clusters) (given .rows))
+    among-same P h = subst P (sym same-clusters) h
 
     room : given .rows ≤ 128
     room = omega (arith, w .capped, facts .rows)
@@ -72,26 +78,26 @@ module _ {W : Width} (facts : WidthFacts W) {given : Table} {c : ℕ} (w : Worka
     ready-sound h = record {
       one = facts .counts;
       small = facts .word;
-      short = omega (arith, length-clustersDown (t .clusters) (given .rows), room);
-      falls = clusters-same (λ (l : List ℕ). Falling (clustersDown l (given .rows))) (given-falls facts w (given .rows) (omega arith));
-      full = clusters-same (λ (l : List ℕ). (x : ℕ) → Mem x (clustersDown l (given .rows)) → x ≢ 0) (given-full facts w);
+      short = omega (arith, down-length (λ (a : ℕ). getD (t .clusters) a 0) (given .rows), room);
+      falls = among-same Falling (given-falls facts w (given .rows) (omega arith));
+      full = among-same (λ (l : List ℕ). (x : ℕ) → Mem x l → x ≢ 0) (given-full facts w);
       rising = record {
         long = omega (arith, p .sized .clusters, room);
         up = λ a b x y. clusters-same (λ (l : List ℕ). getD l a 0 < getD l b 0) (w .rising .up a b x (omega arith));
       };
       nonzero = λ j l. clusters-same (λ (l : List ℕ). 0 < getD l j 0) (cluster-pos W (rowAt given j) (w .rules j (omega arith)));
-      good = λ j l s. clusters-same (goodAt j) (good j l);
+      good = λ j l s. among-same (goodAt j) (good j l);
     }
       where
         goodAt : ℕ → List ℕ → Type 0
-        goodAt j l = GoodRow (W .countMax) (clustersDown l (given .rows)) (rowOf (columnsOf t) j) (fieldsOf (columnsOf t) j)
+        goodAt j l = GoodRow (W .countMax) l (rowOf (columnsOf t) j) (fieldsOf (columnsOf t) j)
 
         -- the rows passed are fit; the search reads neither their weights nor their lengths
-        good : (j : ℕ) → j < i → goodAt j (given .clusters)
+        good : (j : ℕ) → j < i → goodAt j (clustersIn given)
         good j l =
-            let row = subst (Mem (entryAt t j)) (p .done) (mem-entries t i j l) in
+            let row = subst (Mem (entryAt t j)) (p .done) (down-mem (entryAt t) i j l) in
             let g = good-of-fit W cs (entryAt t j) (again-fit-below facts w i (p .within) (entryAt t j) row) in
-            record { counted = g .counted; marked = g .marked; bounded = g .bounded }
+            record { counted = g .counted; marked = g .marked; matched = g .matched }
 
     pub ready-row : (starts : List ℕ) → i < given .rows → Starts (given .clusters) (given .rows) starts
         → Ready W (columnsOf t) starts (getD (t .weights) i (pos 0)) i (given .degree)
@@ -133,11 +139,11 @@ module _ {W : Width} (facts : WidthFacts W) {given : Table} {c : ℕ} (w : Worka
     unfolding ready-row
     row-again starts h s =
         worked-row W t starts i d (ready-row starts h s) over
-        ∙ ap (λ (l : List ℕ). fieldsTally (workedOut W d (clustersDown l (given .rows)) (rowAt t i) (entriesOf t i))) (p .clusters)
+        ∙ ap (λ (l : List ℕ). fieldsTally (workedOut W d l (rowAt t i) (entriesOf t i))) same-clusters
         ∙ ap fieldsTally (ap₂ F same-row (p .done))
       where
         over : Over (W .countMax) (clustersDown (t .clusters) (given .rows)) (rowAt t i) (entriesOf t i)
         over =
-            clusters-same (λ (l : List ℕ). Over (W .countMax) (clustersDown l (given .rows)) (rowAt t i) (entriesOf t i))
+            among-same (λ (l : List ℕ). Over (W .countMax) l (rowAt t i) (entriesOf t i))
             (subst (λ (r : Row). Over (W .countMax) cs r (entriesOf t i)) (sym same-row)
             (subst (Over (W .countMax) cs (rowAt given i)) (sym (p .done)) (again-over-below facts w i h)))

@@ -20,7 +20,7 @@ use Rattle.laws.specs.Lists.{Falling}
 use Rattle.laws.proofs.Tests.{T-and, and-T, T-or, or-l, or-r, T-dec, T-true, T-false}
 use Rattle.trees.specs.Result.{marksIn}
 use Rattle.trees.proofs.Ties.Marks.{marks-ext}
-use Rattle.kept.specs.Fit.{hasMark, everyMarked, isMarkedIn}
+use Rattle.kept.specs.Marks.{hasMark, everyMarked, isMarkedIn}
 
 pub marked-mem : (cs : List ℕ) (m c : ℕ) → T (isMarkedIn cs m c) → Mem c cs
 marked-mem (x ∷ cs) m c h = go (T-or (eqb x c && hasMark m (length cs)) (isMarkedIn cs m c) h) (marked-mem cs m c)

@@ -25,8 +25,9 @@ use Rattle.trees.specs.Kind.{Sol, timesSol, Res}
 use Rattle.trees.proofs.Counting.Capped.{count-small}
 use Rattle.trees.proofs.Counting.Worked.{markIn}
 use Rattle.trees.proofs.Sets.Families.{one, Disj}
-use Rattle.kept.specs.Arrays.{clustersDown}
-use Rattle.kept.proofs.Laws.Marks.{mark-down, highest-lt}
+use Rattle.kept.specs.View.{clustersDown}
+use Rattle.kept.proofs.Laws.Clusters.{mark-down}
+use Rattle.kept.proofs.Laws.Marks.{highest-lt}
 use Rattle.table.specs.declared.tally.Tally.{Tally}
 use Rattle.table.specs.Searched.{Searchable}
 use Rattle.table.specs.Tally.{tallyWith, tallyOf, ownTally}

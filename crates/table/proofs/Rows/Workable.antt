@@ -7,7 +7,7 @@
 use mathlib.Core.Path.{sym, _∙_, subst}
 use mathlib.Core.Logic.{_≢_}
 use mathlib.Core.Bool.{false}
-use mathlib.Core.List.{List}
+use mathlib.Core.List.{List, map, Memᴰ·map}
 use mathlib.Core.List.{List·Memᴰ as Mem}
 use Prim.Native.Nat.{ℕ, suc, _-_, _^_, _≤_, _<_}
 use native.Mathlib.Nat.{lt-of-lt-of-le}
@@ -22,19 +22,18 @@ use Rattle.laws.specs.Cluster.{inside}
 use Rattle.laws.specs.Limits.{Width, WidthFacts, few, wordValues}
 use Rattle.laws.specs.Lists.{Falling}
 use Rattle.laws.specs.Row.{Row}
+use Rattle.laws.proofs.Down.{down-length, mem-down, down-mem, down-falling}
 use Rattle.laws.proofs.Integers.{mag-le-abs}
 use Rattle.cluster.proofs.Laws.Rule.{Keeps}
 use Rattle.trees.specs.Rows.{Entry, cl}
 use Rattle.trees.specs.Result.{Result}
 use Rattle.trees.specs.Rescored.{workedOut, again}
 use Rattle.kept.specs.declared.table.Table.{Table}
-use Rattle.kept.specs.View.{rowAt, entryAt, entriesOf}
+use Rattle.kept.specs.View.{rowAt, entryAt, entriesOf, clustersIn}
 use Rattle.kept.specs.Fit.{keepsRules, fitEntry}
-use Rattle.kept.specs.Arrays.{clustersDown}
-use Rattle.kept.proofs.Laws.Column.{entries-length, entries-mem}
 use Rattle.kept.proofs.Laws.Fit.{recordIn, rules→}
-use Rattle.kept.proofs.Laws.Marks.{clusters-are, mem-clustersDown, clustersDown-mem, falling-clustersDown}
-use Rattle.table.specs.Working.{tableClusters, Workable}
+use Rattle.kept.proofs.Laws.Clusters.{clusters-are}
+use Rattle.table.specs.Working.{Workable}
 use Rattle.table.proofs.Fitting.AgainFit.{again-fit, again-over, Listed}
 use Rattle.table.proofs.Fitting.KeepsFit.{Over}
 
@@ -43,10 +42,10 @@ module _ {W : Width} (facts : WidthFacts W) {given : Table} {c : ℕ} (w : Worka
   d = given .degree
 
   abbrev cs : List ℕ
-  cs = tableClusters given
+  cs = clustersIn given
 
   abbrev pub rowFormula : Row → List (Entry Result) → Result
-  rowFormula = workedOut W (given .degree) (tableClusters given)
+  rowFormula = workedOut W (given .degree) (clustersIn given)
 
   -- ---- the rows as they are given
 
@@ -59,42 +58,43 @@ module _ {W : Width} (facts : WidthFacts W) {given : Table} {c : ℕ} (w : Worka
   pub weight-fits : (i : ℕ) → i < given .rows → SFits w32 (getD (given .weights) i (pos 0))
   weight-fits i h = record { sfits = omega (arith, given-rules i h .1 .in-range, mag-le-abs (getD (given .weights) i (pos 0))) }
 
-  pub given-full : (x : ℕ) → Mem x (tableClusters given) → x ≢ 0
+  pub given-full : (x : ℕ) → Mem x (clustersIn given) → x ≢ 0
   given-full x m e =
-      let q = clustersDown-mem (given .clusters) (given .rows) x m in
+      let q = mem-down _ (given .rows) x (subst (Mem x) (clusters-are given (given .rows)) m) in
       given-rules (q .0) (q .1) .1 .has-taxon (sym (q .2) ∙ e)
 
-  pub given-falls : (i : ℕ) → i ≤ given .rows → Falling (clustersDown (given .clusters) i)
-  given-falls i h = falling-clustersDown (given .clusters) i (λ a b p q. w .rising .up a b p (omega arith))
+  pub given-falls : (i : ℕ) → i ≤ given .rows → Falling (map cl (entriesOf given i))
+  given-falls i h =
+      subst Falling (sym (clusters-are given i)) (down-falling _ i (λ a b p q. w .rising .up a b p (omega arith)))
 
   given-listed : (i : ℕ) → i ≤ given .rows → Listed W cs (entriesOf given i)
   given-listed i h = record {
-    falls = subst Falling (sym (clusters-are given i)) (given-falls i h);
-    listed = λ e m. let q = entries-mem given i e m in
+    falls = given-falls i h;
+    listed = λ e m. let q = mem-down (entryAt given) i e m in
         subst (λ (x : Entry Result). Mem (cl x) cs) (sym (q .2))
-        (mem-clustersDown (given .clusters) (given .rows) (q .0) (omega (arith, q .1)));
-    rules = λ e m. let q = entries-mem given i e m in
+        (Memᴰ·map cl (down-mem (entryAt given) (given .rows) (q .0) (omega (arith, q .1))));
+    rules = λ e m. let q = mem-down (entryAt given) i e m in
         subst (λ (x : Entry Result). T (keepsRules W (x .row))) (sym (q .2)) (w .rules (q .0) (omega (arith, q .1)));
   }
 
   given-others : (i : ℕ) → i ≤ given .rows → (e : Entry Result) → Mem e (entriesOf given i)
       → (T (inside c (cl e)) → ⊥) → T (fitEntry W cs e)
   given-others i h e m n =
-      let q = entries-mem given i e m in
+      let q = mem-down (entryAt given) i e m in
       subst (λ (x : Entry Result). T (fitEntry W cs x)) (sym (q .2))
       (w .fit (q .0) (omega (arith, q .1)) (λ t. n (subst (λ (x : Entry Result). T (inside c (cl x))) (sym (q .2)) t)))
 
   -- ---- the first i rows worked out again
 
   pub again-fit-below : (i : ℕ) → i ≤ given .rows → (x : Entry Result) → Mem x (again rowFormula c (entriesOf given i))
-      → T (fitEntry W (tableClusters given) x)
+      → T (fitEntry W (clustersIn given) x)
   again-fit-below i h =
       again-fit W (facts .counts) d c cs (given-falls (given .rows) (omega arith)) given-full (entriesOf given i) (given-listed i h)
-      (subst (λ (n : ℕ). few (n - 1) (d - 1) ≤ W .lengthMax) (sym (entries-length given i))
+      (subst (λ (n : ℕ). few (n - 1) (d - 1) ≤ W .lengthMax) (sym (down-length (entryAt given) i))
       (facts .tuples d (i - 1) (w .high) (omega (arith, w .capped, w .filled)))) (given-others i h)
 
   pub again-over-below : (i : ℕ) → i < given .rows
-      → Over (W .countMax) (tableClusters given) (rowAt given i) (again rowFormula c (entriesOf given i))
+      → Over (W .countMax) (clustersIn given) (rowAt given i) (again rowFormula c (entriesOf given i))
   again-over-below i h =
       again-over W (facts .counts) d c cs (given-falls (given .rows) (omega arith)) given-full (entryAt given i) (entriesOf given i)
       (given-listed (suc i) h) (again-fit-below i (omega arith))

@@ -20,6 +20,7 @@ use Rattle.laws.specs.Limits.{Width}
 use Rattle.laws.specs.Lists.{keep}
 use Rattle.laws.specs.Row.{Row, isScored}
 use Rattle.laws.proofs.Appended.{map-through}
+use Rattle.laws.proofs.Down.{down-map}
 use Rattle.laws.proofs.Keep.{keep-map, keep-all, mem-of-keep}
 use Rattle.trees.specs.Rows.{Entry, cl, sc}
 use Rattle.trees.specs.Tuple.{tuples}
@@ -32,8 +33,7 @@ use Rattle.trees.proofs.Counting.Worked.{markIn, lengthIf, trueResult}
 use Rattle.trees.proofs.Formula.Kind.{mapE, tuples-map}
 use Rattle.trees.proofs.Searching.Covers.{tuples-are-covers, coversOf-map}
 use Rattle.kept.specs.declared.table.Table.{Table}
-use Rattle.kept.specs.View.{rowAt, entryAt, entriesOf}
-use Rattle.kept.specs.Arrays.{clustersDown}
+use Rattle.kept.specs.View.{rowAt, entryAt, entriesOf, clustersDown}
 use Rattle.table.specs.declared.tally.Tally.{Tally}
 use Rattle.table.specs.Tally.{tallyOf, fieldsTally, ownTally, decoded}
 use Rattle.table.specs.Working.{foundTally, workedTally, Ready}
@@ -53,8 +53,7 @@ abbrev solved : Entry Result → Entry (Option Sol)
 solved = mapE decoded
 
 pub parts-are : (t : Table) (n : ℕ) → partsOf (columnsOf t) n ≡ map part (entriesOf t n)
-parts-are t zero = refl
-parts-are t (suc n) = ap (λ (es : List (Entry Res)). part (entryAt t n) ∷ es) (parts-are t n)
+parts-are t n = sym (down-map part (entryAt t) n)
 
 -- a row's own mark plays no part in sums of products
 module _ (bit : ℕ → ℕ) where

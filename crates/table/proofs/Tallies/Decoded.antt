@@ -27,8 +27,10 @@ use Rattle.trees.specs.Result.{Result, countField, markField}
 use Rattle.trees.specs.Rows.{Entry}
 use Rattle.trees.specs.Kind.{Sol, Res}
 use Rattle.trees.proofs.Counting.Capped.{encode, encodeSol, count-small, count-large}
-use Rattle.kept.specs.Fit.{isMarkedIn, fitEntry}
-use Rattle.kept.proofs.Laws.Fit.{Told, told→, →told, fit→}
+use Rattle.kept.specs.Fit.{fitEntry}
+use Rattle.kept.specs.Marks.{isMarkedIn}
+use Rattle.kept.proofs.Laws.Results.{Matched, matched→, →matched}
+use Rattle.kept.proofs.Laws.Fit.{fit→}
 use Rattle.table.specs.Tally.{tallyWith, tallyOf, fieldsTally, decoded}
 use Rattle.table.specs.Searched.{GoodRow}
 use Rattle.table.proofs.Tallies.Held.{Keeps}
@@ -37,7 +39,7 @@ use Rattle.table.proofs.Rows.Marked.{marked-mem, every-marked→, marks
 pub good-of-fit : (W : Width) (cs : List ℕ) (e : Entry Result) → T (fitEntry W cs e) → GoodRow (W .countMax) cs (e .row) (e .val)
 good-of-fit W cs e h =
     let f = fit→ W cs e h in
-    record { counted = f .ranged .counted; marked = f .ranged .marked; bounded = →told cs (e .row) (e .val) (f .told) }
+    record { counted = f .ranged .counted; marked = f .ranged .marked; matched = →matched cs (e .row) (e .val) (f .matched) }
 
 -- ---- what the fields stand for
 
@@ -69,8 +71,8 @@ tally-encode limit x = go (x .1)
     go (some y) = refl
 
 module _ (limit : ℕ) (cs : List ℕ) (r : Row) (v : Result) (g : GoodRow limit cs r v) where
-  tells : Told cs r v
-  tells = told→ cs r v (g .bounded)
+  tells : Matched cs r v
+  tells = matched→ cs r v (g .matched)
 
   -- beside any row length
   pub encode-with : (n : ℕ)

@@ -28,7 +28,7 @@ use Rattle.laws.proofs.Tests.{T-true, T-false, eq→eqb}
 use Rattle.trees.specs.Rows.{Entry, cl, sc}
 use Rattle.trees.specs.Kind.{Res}
 use Rattle.trees.proofs.Searching.Search.{lookup, lookup-row, lookup-missing, search-one}
-use Rattle.kept.proofs.Laws.Marks.{rising-part}
+use Rattle.kept.proofs.Laws.Clusters.{rising-part}
 use Rattle.table.specs.Tally.{tallyOf, decoded}
 use Rattle.table.specs.Searched.{Below, Long, Sound, Readable}
 use Rattle.table.specs.Columns.{Columns, rowOf, fieldsOf, partAt, partTally, partsOf, sumKind, sumCovers}

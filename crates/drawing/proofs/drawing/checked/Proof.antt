@@ -5,7 +5,7 @@ use Prim.Native.Nat.{_<_}
 use native.Mathlib.Omega.{arith}
 use borrow.Author.Needs.{needs}
 use borrow.Author.Tests.{not-true, not-false}
-use Rattle.laws.specs.Limits.{rowCap}
+use Rattle.laws.specs.Limits.{narrow, rowCap}
 use Rattle.kept.specs.Fit.{isFit}
 use Rattle.kept.specs.Rows.{placeOf}
 use Rattle.drawing.specs.Draw.{leafRow, hasTree}
@@ -16,26 +16,26 @@ use Rattle.drawing.proofs.drawing.checked.Statement.{statement}
 use Rattle.drawing.proofs.drawing.checked.Tie as tie
 
 -- ---- where the row has been looked up: the table is fit, and the row is the leaf set's
-abbrev looked-start : tie.After-row-of → tie.Start
+abbrev looked-start : tie.After-place-of → tie.Start
 looked-start s = s .before .before .before .before
 
-is-fit-there : (s : tie.After-row-of) → isFit (looked-start s .args .t1) ≡ true
+is-fit-there : (s : tie.After-place-of) → isFit narrow (looked-start s .args .t1) ≡ true
 is-fit-there s = let fit = s .before .before in sym (fit .before .is-fit .ensures) ∙ not-false _ (fit .if1 .left)
 
-row-is : (s : tie.After-row-of) → s .row-of .result ≡ leafRow (looked-start s .args .t1)
-row-is s = s .row-of .ensures ∙ ap (placeOf (looked-start s .args .t1)) (s .before .leaf-set .ensures)
+row-is : (s : tie.After-place-of) → s .place-of .result ≡ leafRow (looked-start s .args .t1)
+row-is s = s .place-of .ensures ∙ ap (placeOf (looked-start s .args .t1)) (s .before .leaf-set .ensures)
 
-row-lt : (s : tie.Else2) → s .before .row-of .result < rowCap
+row-lt : (s : tie.Else2) → s .before .place-of .result < rowCap
 row-lt s = omega (arith, rows-capped (looked-start (s .before) .args .t1) (is-fit-there (s .before)))
 
 -- ---- where the count has been tested: there is a tree
-abbrev looked : tie.Else3 → tie.After-row-of
+abbrev looked : tie.Else3 → tie.After-place-of
 looked s = s .before .before .before
 
 has-tree : (s : tie.Else3) → hasTree (looked-start (looked s) .args .t1) ≡ true
 has-tree s =
     let at = looked s in
-    hasTree-count (looked-start at .args .t1) (at .row-of .result) (row-is at) (omega arith) (s .if3 .left)
+    hasTree-count (looked-start at .args .t1) (at .place-of .result) (row-is at) (omega arith) (s .if3 .left)
 
 -- ---- the needs
 is-fit-requires : tie.Need-is-fit-requires
@@ -50,7 +50,7 @@ returns-2 : tie.Need-returns-2
 returns-2 c =
     let at = c .before in
     let t = looked-start at .args .t1 in
-    sym (ap checkedAs (refusal-no-tree t (is-fit-there at) (hasTree-no-row t (at .row-of .result) (row-is at) (c .if2 .taken))))
+    sym (ap checkedAs (refusal-no-tree t (is-fit-there at) (hasTree-no-row t (at .place-of .result) (row-is at) (c .if2 .taken))))
 
 mul-if3 : tie.Need-mul-if3
 mul-if3 c = omega (arith, row-lt c)
@@ -62,7 +62,7 @@ returns-3 : tie.Need-returns-3
 returns-3 c =
     let at = c .before .before .before in
     let t = looked-start at .args .t1 in
-    sym (ap checkedAs (refusal-no-tree t (is-fit-there at) (hasTree-no-count t (at .row-of .result) (row-is at) (c .if3 .taken))))
+    sym (ap checkedAs (refusal-no-tree t (is-fit-there at) (hasTree-no-count t (at .place-of .result) (row-is at) (c .if3 .taken))))
 
 is-drawable-requires : tie.Need-is-drawable-requires
 is-drawable-requires c κs = (is-fit-there (looked c), (row-is (looked c), omega arith))

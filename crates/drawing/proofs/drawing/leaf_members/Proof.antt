@@ -12,10 +12,10 @@ use Rattle.drawing.proofs.drawing.leaf_members.Statement.{statement}
 use Rattle.drawing.proofs.drawing.leaf_members.Tie as tie
 
 -- ---- the row looked up
-row-is : (c : tie.After-row-of) → c .row-of .result ≡ leafRow (c .before .before .args .t1)
-row-is c = c .row-of .ensures ∙ ap (placeOf (c .before .before .args .t1)) (c .before .leaf-set .ensures)
+row-is : (c : tie.After-place-of) → c .place-of .result ≡ leafRow (c .before .before .args .t1)
+row-is c = c .place-of .ensures ∙ ap (placeOf (c .before .before .args .t1)) (c .before .leaf-set .ensures)
 
-row-lt : (c : tie.After-row-of) → c .row-of .result < rowCap
+row-lt : (c : tie.After-place-of) → c .place-of .result < rowCap
 row-lt c = let start = c .before .before in omega (arith, row-is c, start .pre .1, rows-capped (start .args .t1) (start .pre .0))
 
 -- ---- the needs
@@ -41,7 +41,7 @@ returns : tie.Need-returns
 returns c =
     let found = c .before .before .before .before .before in
     let start = found .before .before in
-    members-held (start .args .t1) (start .pre .0) (found .row-of .result) (row-is found) (c .members-of .ensures)
+    members-held (start .args .t1) (start .pre .0) (found .place-of .result) (row-is found) (c .members-of .ensures)
 
 pub leaf-members-spec : {M : Type 1} → statement M
 leaf-members-spec =

@@ -9,15 +9,16 @@ use lib.ListN.{getD}
 use mir.Facts.{toZ-ofZ}
 use mir.Syntax.{w32, w64}
 use mir.Val.{SFits}
-use Rattle.laws.specs.Limits.{rowCap}
-use Rattle.kept.specs.View.{entryAt}
-use Rattle.kept.specs.Fitness.{isRowRight, hasRightRows}
-use Rattle.kept.proofs.Laws.Fitness.{passed, failed, right-more, right-stop, right-none}
+use Rattle.laws.specs.Limits.{narrow, rowCap}
+use Rattle.laws.proofs.Tests.{passed, failed}
+use Rattle.kept.specs.View.{entryAt, clustersDown}
+use Rattle.kept.specs.Fit.{isRowRight, hasRightRows}
+use Rattle.kept.proofs.Laws.Fit.{right-more, right-stop, right-none}
 use Rattle.kept.proofs.fitness.has_right_rows.Statement.{statement}
 use Rattle.kept.proofs.fitness.has_right_rows.Tie as tie
 
 abbrev Inv-loop : tie.InvT-loop
-Inv-loop n t i₀ i = (i ≤ rowCap) × (hasRightRows t n rowCap ≡ hasRightRows t n i)
+Inv-loop n t i₀ i = let right = hasRightRows narrow (clustersDown (t .clusters) n) t n in (i ≤ rowCap) × (right rowCap ≡ right i)
 
 abbrev μ-loop : tie.MeasureT-loop
 μ-loop n t i₀ i = i
@@ -38,9 +39,10 @@ best-fits : (c : tie.After-best Inv-loop μ-loop) → let at-loop = c .before .b
     SFits w64 (getD (at-loop .before .args .t1 .bests) (at-loop .loop .i - 1) (pos 0))
 best-fits c = search needs
 
-told : (c : tie.After-is-row-right Inv-loop μ-loop) → let at-loop = in-loop (c .before) .before in let a = at-loop .before .args in
-    c .is-row-right .result ≡ isRowRight (a .t1 .clusters) (a .n) (at-loop .loop .i - 1) (entryAt (a .t1) (at-loop .loop .i - 1))
-told c =
+right-told : (c : tie.After-is-row-right Inv-loop μ-loop) → let at-loop = in-loop (c .before) .before in let a = at-loop .before .args in
+    let cs = clustersDown (a .t1 .clusters) (a .n) in let j = at-loop .loop .i - 1 in
+    c .is-row-right .result ≡ isRowRight narrow cs (a .n) j (entryAt (a .t1) j)
+right-told c =
     let row = copied (c .before) in
     rw (toZ-ofZ (weight-fits (row .before)), toZ-ofZ (best-fits row)) at (c .is-row-right .ensures)
 
@@ -55,17 +57,17 @@ returns c =
     let inside = in-loop (c .before .before) in
     let at-loop = inside .before in
     let a = at-loop .before .args in
-    let wrong = failed (told (c .before)) (c .if1 .taken) in
-    sym (at-loop .loop .inv .1 ∙ right-stop (a .t1) (a .n) (at-loop .loop .i) (inside .loop-test .taken) wrong)
+    let wrong = failed (right-told (c .before)) (c .if1 .taken) in
+    sym (at-loop .loop .inv .1 ∙ right-stop narrow (clustersDown (a .t1 .clusters) (a .n)) (a .t1) (a .n) (at-loop .loop .i) (inside .loop-test .taken) wrong)
 
 loop-again : tie.Need-loop-again Inv-loop μ-loop
 loop-again c =
     let inside = in-loop (c .before .before) in
     let at-loop = inside .before in
     let a = at-loop .before .args in
-    let right = passed (told (c .before)) (c .if1 .left) in (
+    let right = passed (right-told (c .before)) (c .if1 .left) in (
       omega (arith, at-loop .loop .inv .0),
-      at-loop .loop .inv .1 ∙ right-more (a .t1) (a .n) (at-loop .loop .i) (inside .loop-test .taken) right,
+      at-loop .loop .inv .1 ∙ right-more narrow (clustersDown (a .t1 .clusters) (a .n)) (a .t1) (a .n) (at-loop .loop .i) (inside .loop-test .taken) right,
     )
 
 returns-2 : tie.Need-returns-2 Inv-loop μ-loop
@@ -73,7 +75,8 @@ returns-2 c =
     let at-loop = c .before in
     let a = at-loop .before .args in
     let end : at-loop .loop .i ≡ 0 = omega arith in
-    sym (at-loop .loop .inv .1 ∙ ap (hasRightRows (a .t1) (a .n)) end ∙ right-none (a .t1) (a .n))
+    let cs = clustersDown (a .t1 .clusters) (a .n) in
+    sym (at-loop .loop .inv .1 ∙ ap (hasRightRows narrow cs (a .t1) (a .n)) end ∙ right-none narrow cs (a .t1) (a .n))
 
 pub has-right-rows-spec : {M : Type 1} → statement M
 has-right-rows-spec =

@@ -6,10 +6,12 @@ use mathlib.Core.Bool.{true}
 use Prim.Native.Nat.{_≤_}
 use native.Mathlib.Omega.{arith}
 use lib.Dec.{T}
-use Rattle.laws.proofs.Tests.{true-T}
-use Rattle.kept.specs.Fitness.{isRising}
-use Rattle.kept.proofs.Laws.Fit.{FitTable, isRising→, →isRising}
-use Rattle.kept.proofs.Laws.Fitness.{passed, failed, unfit, fit-rows}
+use Rattle.laws.specs.Limits.{narrow}
+use Rattle.laws.proofs.Tests.{true-T, passed, failed}
+use Rattle.laws.proofs.Width.{narrow-facts}
+use Rattle.kept.specs.Fit.{isRising}
+use Rattle.kept.proofs.Laws.Clusters.{isRising→, →isRising}
+use Rattle.kept.proofs.Laws.Fit.{FitTable, unfit, fit-rows}
 use Rattle.kept.proofs.fitness.is_fit.Statement.{statement}
 use Rattle.kept.proofs.fitness.is_fit.Tie as tie
 
@@ -27,28 +29,28 @@ ascend c = passed (c .before .is-rising .ensures) (c .if5 .left)
 returns : tie.Need-returns
 returns c =
     let t = c .before .args .t1 in
-    sym (unfit t (λ (f : FitTable t). omega (arith, f .low, c .if1 .taken)))
+    sym (unfit narrow narrow-facts t (λ (f : FitTable narrow t). omega (arith, f .low, c .if1 .taken)))
 
 returns-2 : tie.Need-returns-2
 returns-2 c =
     let t = c .before .before .args .t1 in
-    sym (unfit t (λ (f : FitTable t). omega (arith, f .high, c .if2 .taken)))
+    sym (unfit narrow narrow-facts t (λ (f : FitTable narrow t). omega (arith, f .high, c .if2 .taken)))
 
 returns-3 : tie.Need-returns-3
 returns-3 c =
     let t = c .before .before .before .args .t1 in
-    sym (unfit t (λ (f : FitTable t). omega (arith, f .some, c .if3 .taken)))
+    sym (unfit narrow narrow-facts t (λ (f : FitTable narrow t). omega (arith, f .some, c .if3 .taken)))
 
 returns-4 : tie.Need-returns-4
 returns-4 c =
     let t = c .before .before .before .before .args .t1 in
-    sym (unfit t (λ (f : FitTable t). omega (arith, f .capped, c .if4 .taken)))
+    sym (unfit narrow narrow-facts t (λ (f : FitTable narrow t). omega (arith, f .capped, c .if4 .taken)))
 
 returns-5 : tie.Need-returns-5
 returns-5 c =
     let t = start (tested (c .before)) .args .t1 in
     let falls = failed (c .before .is-rising .ensures) (c .if5 .taken) in
-    sym (unfit t (λ (f : FitTable t). subst T falls (→isRising (t .clusters) (t .rows) (f .rising))))
+    sym (unfit narrow narrow-facts t (λ (f : FitTable narrow t). subst T falls (→isRising (t .clusters) (t .rows) (f .rising))))
 
 has-right-rows-requires : tie.Need-has-right-rows-requires
 has-right-rows-requires c κs =
@@ -64,7 +66,7 @@ returns-6 c =
     let t = start capped .args .t1 in
     let one : 1 ≤ t .rows = omega (arith, some .if3 .left) in
     c .has-right-rows .ensures
-    ∙ sym (fit-rows t (high .before .if1 .left) (high .if2 .left) one (capped .if4 .left) (ascend (c .before)))
+    ∙ sym (fit-rows narrow t (high .before .if1 .left) (high .if2 .left) one (capped .if4 .left) (ascend (c .before)))
 
 pub is-fit-spec : {M : Type 1} → statement M
 is-fit-spec =

@@ -4,8 +4,8 @@ use mathlib.Core.Path.{_≡_, refl, sym, _∙_}
 use Prim.Native.Nat.{_≤_}
 use native.Mathlib.Omega.{arith}
 use denote.Ref.{now}
-use Rattle.kept.specs.Fitness.{isRising}
-use Rattle.kept.proofs.Laws.Fitness.{rising-more, rising-stop, rising-end}
+use Rattle.kept.specs.Fit.{isRising}
+use Rattle.kept.proofs.Laws.Clusters.{rising-more, rising-stop, rising-end}
 use Rattle.kept.proofs.fitness.is_rising.Statement.{statement}
 use Rattle.kept.proofs.fitness.is_rising.Tie as tie
 

@@ -41,17 +41,17 @@ module _ (c : tie.After-answer2) where
   drawn : (drawRefusal (table drawing) ≡ none) × Front (drawnText (table drawing)) (c .answer2 .given .0 .0) (drawing .text .last .1 .0)
   drawn = told-drawn (table drawing) (replicate textCap 0) refl (drawing .text .ensures) (c .answer2 .given .1)
 
-module _ (c : tie.After-row-of) where
+module _ (c : tie.After-place-of) where
   abbrev told : tie.After-answer2
   told = c .before .before .before
 
-  row-is : c .row-of .result ≡ leafRow (table (drawing told))
-  row-is = c .row-of .ensures ∙ ap (placeOf (table (drawing told))) (c .before .leaf-set .ensures)
+  row-is : c .place-of .result ≡ leafRow (table (drawing told))
+  row-is = c .place-of .ensures ∙ ap (placeOf (table (drawing told))) (c .before .leaf-set .ensures)
 
-  row-lt : c .row-of .result < rowCap
+  row-lt : c .place-of .result < rowCap
   row-lt = omega (arith, row-is, leaf-row-lt (drawable _ (drawn told .0)))
 
-abbrev read-row : tie.After-best → tie.After-row-of
+abbrev read-row : tie.After-best → tie.After-place-of
 read-row c = c .before .before .before
 
 -- ---- the needs

@@ -11,8 +11,9 @@ use lib.ListN.{getD}
 use mir.Facts.{toZ-ofZ}
 use mir.Syntax.{w64}
 use mir.Val.{Fits}
-use Rattle.laws.specs.Limits.{wordValues}
+use Rattle.laws.specs.Limits.{narrow, wordValues}
 use Rattle.laws.proofs.Tests.{true-T}
+use Rattle.laws.proofs.Width.{narrow-facts}
 use Rattle.kept.specs.Fit.{isFit}
 use Rattle.kept.specs.Rows.{hasRow}
 use Rattle.kept.specs.Arrays.{Sized}
@@ -31,11 +32,11 @@ sized s = search needs
 words : (s : tie.Start) (j : ℕ) → getD (s .args .given .«members_low») j 0 < wordValues
 words s j = let f : Fits w64 (getD (s .args .given .«members_low») j 0) = search needs in f .fits
 
-fit : (c : tie.Else1) → isFit (c .before .before .args .given) ≡ true
+fit : (c : tie.Else1) → isFit narrow (c .before .before .args .given) ≡ true
 fit c = sym (c .before .is-fit .ensures) ∙ not-false _ (c .if1 .left)
 
 capped : (c : tie.Else1) → c .before .before .args .given .rows ≤ 128
-capped c = isFit→ (c .before .before .args .given) (true-T (fit c)) .capped
+capped c = isFit→ narrow narrow-facts (c .before .before .args .given) (true-T (fit c)) .capped
 
 -- ---- the row of the cluster
 
@@ -48,9 +49,9 @@ start c = fits-at c .before .before
 listed : (c : tie.Else2) → hasRow (start (c .before) .args .given) (start (c .before) .args .cluster) ≡ true
 listed c =
     let s = start (c .before) in
-    row-listed (s .args .given) (capped (fits-at (c .before))) (s .args .cluster) _ (c .before .before .row-of .ensures) (c .if2 .left)
+    row-listed (s .args .given) (capped (fits-at (c .before))) (s .args .cluster) _ (c .before .before .place-of .ensures) (c .if2 .left)
 
-room : (c : tie.Else3) → c .before .before .before .before .row-of .result < 128
+room : (c : tie.Else3) → c .before .before .before .before .place-of .result < 128
 room c = let at = c .before .before in omega (arith, at .if2 .left, capped (fits-at (at .before)))
 
 -- ---- the new score
@@ -74,7 +75,7 @@ returns-2 c =
     let s = start (c .before) in
     let f = fits-at (c .before) in
     rescore-no-row (s .args .given) (s .args .cluster) (s .args .weight) (s .args .state) (fit f)
-    (row-missing (s .args .given) (capped f) (s .args .cluster) _ (c .before .before .row-of .ensures) (c .if2 .taken))
+    (row-missing (s .args .given) (capped f) (s .args .cluster) _ (c .before .before .place-of .ensures) (c .if2 .taken))
 
 returns-3 : tie.Need-returns-3
 returns-3 c =
@@ -97,10 +98,10 @@ again-requires c κs =
     let at = c .before .before in
     let s = start (at .before) in
     let f = fits-at (at .before) in
-    let row = at .before .before .row-of in
+    let row = at .before .before .place-of in
     let found = row-found (s .args .given) (capped f) (s .args .cluster) _ (row .ensures) (at .if2 .left) in
     rw (toZ-ofZ (s .fits .weight))
-    (score-workable (s .args .given) (s .args .cluster) (s .args .weight) (s .args .state) (sized s) (true-T (fit f))
+    (score-workable narrow narrow-facts (s .args .given) (s .args .cluster) (s .args .weight) (s .args .state) (sized s) (true-T (fit f))
     (row .result) (at .if2 .left) found (true-T (sym (score (c .before)) ∙ not-false _ (c .if3 .left))) (λ j h. words s j))
 
 returns-4 : tie.Need-returns-4
@@ -108,11 +109,11 @@ returns-4 c =
     let at = c .before .before .before in
     let s = start (at .before) in
     let f = fits-at (at .before) in
-    let row = at .before .before .row-of in
+    let row = at .before .before .place-of in
     let found = row-found (s .args .given) (capped f) (s .args .cluster) _ (row .ensures) (at .if2 .left) in
     rescore-done (s .args .given) (s .args .cluster) (s .args .weight) (s .args .state) (fit f) (listed at)
     (sym (score (c .before .before)) ∙ not-false _ (c .before .if3 .left)) (c .again .result)
-    (score-done (s .args .given) (s .args .cluster) (s .args .weight) (s .args .state) (sized s) (true-T (fit f))
+    (score-done narrow narrow-facts (s .args .given) (s .args .cluster) (s .args .weight) (s .args .state) (sized s) (true-T (fit f))
     (row .result) (at .if2 .left) found _ (toZ-ofZ (s .fits .weight)) (c .again .result) (c .again .ensures))
 
 pub rescore-spec : {M : Type 1} → statement M

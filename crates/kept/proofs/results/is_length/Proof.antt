@@ -1,9 +1,9 @@
--- `kept::fitness::is_length` meets its contract: the range, then the one taxon. Assumes nothing.
+-- `kept::results::is_length` meets its contract: the range, then the one taxon. Assumes nothing.
 use borrow.Author.Needs.{needs}
 use borrow.Author.Tests.{le-leb, lt-leb}
 use mathlib.Core.Path.{sym, _∙_}
-use Rattle.kept.proofs.fitness.is_length.Statement.{statement}
-use Rattle.kept.proofs.fitness.is_length.Tie as tie
+use Rattle.kept.proofs.results.is_length.Statement.{statement}
+use Rattle.kept.proofs.results.is_length.Tie as tie
 
 returns : tie.Need-returns
 returns c = rw (lt-leb _ _ (c .if1 .taken))

@@ -1,12 +1,13 @@
--- `kept::fitness::is_nothing` meets its contract: one field after the other. Assumes nothing.
+-- `kept::blank::is_nothing` meets its contract: one field after the other. Assumes nothing.
 use borrow.Author.Needs.{needs}
 use borrow.Author.Tests.{eq-eqb, ne-eqb}
 use mathlib.Core.Path.{sym, _∙_}
 use mir.Syntax.{w64}
 use mir.Val.{SFits}
-use Rattle.kept.proofs.Laws.Fitness.{bits-zero, nothing-is}
-use Rattle.kept.proofs.fitness.is_nothing.Statement.{statement}
-use Rattle.kept.proofs.fitness.is_nothing.Tie as tie
+use Rattle.laws.proofs.Signed.{bits-zero}
+use Rattle.kept.proofs.Laws.Blank.{nothing-is}
+use Rattle.kept.proofs.blank.is_nothing.Statement.{statement}
+use Rattle.kept.proofs.blank.is_nothing.Tie as tie
 
 best-fits : (s : tie.Start) → SFits w64 (s .args .row .best)
 best-fits s = search needs

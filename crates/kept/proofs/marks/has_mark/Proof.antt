@@ -1,4 +1,4 @@
--- `kept::fitness::has_mark` meets its contract: the mark is looked up in the word that has the row. Assumes nothing.
+-- `kept::marks::has_mark` meets its contract: the mark is looked up in the word that has the row. Assumes nothing.
 use borrow.Author.Needs.{needs}
 use mathlib.Core.Path.{_≡_, sym, ap, _∙_}
 use Prim.Native.Nat.{ℕ, _+_, _-_}
@@ -6,12 +6,11 @@ use native.Mathlib.Omega.{arith}
 use mir.Syntax.{w64}
 use mir.Val.{Fits}
 use Rattle.laws.specs.Cluster.{inside}
-use Rattle.kept.specs.Fit.{hasMark}
-use Rattle.kept.specs.Fitness.{resultIn}
-use Rattle.kept.proofs.Laws.Marks.{mark-is, mark-low, mark-high}
-use Rattle.kept.proofs.Laws.Fitness.{shifted}
-use Rattle.kept.proofs.fitness.has_mark.Statement.{statement}
-use Rattle.kept.proofs.fitness.has_mark.Tie as tie
+use Rattle.kept.specs.Marks.{hasMark}
+use Rattle.kept.specs.Fields.{resultIn}
+use Rattle.kept.proofs.Laws.Marks.{mark-is, mark-low, mark-high, shifted}
+use Rattle.kept.proofs.marks.has_mark.Statement.{statement}
+use Rattle.kept.proofs.marks.has_mark.Tie as tie
 
 low-fits : (s : tie.Start) → Fits w64 (s .args .row .low)
 low-fits s = search needs

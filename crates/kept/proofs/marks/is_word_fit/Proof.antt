@@ -1,4 +1,4 @@
--- `kept::fitness::is_word_fit` meets its contract. The invariant: each set bit of the word passes where each of the rest does, and the rest
+-- `kept::marks::is_word_fit` meets its contract. The invariant: each set bit of the word passes where each of the rest does, and the rest
 -- is no larger. The measure is the rest. Assumes nothing.
 use borrow.Author.Needs.{needs}
 use borrow.Author.Tests.{lt-ltb, le-ltb}
@@ -9,11 +9,12 @@ use native.Mathlib.Omega.{arith}
 use denote.Ref.{now}
 use lib.Pow.{pow-pos}
 use Rattle.laws.proofs.Taxa.{highest-le}
-use Rattle.kept.specs.Fitness.{everyBit, isMarkFit}
-use Rattle.kept.proofs.Laws.Marks.{Marked, mark-highest, mark-lt}
-use Rattle.kept.proofs.Laws.Fitness.{passed, failed, shifted, everyBit-none, everyBit-fails, everyBit-drop}
-use Rattle.kept.proofs.fitness.is_word_fit.Statement.{statement}
-use Rattle.kept.proofs.fitness.is_word_fit.Tie as tie
+use Rattle.laws.proofs.Tests.{passed, failed}
+use Rattle.kept.specs.Fields.{everyBit, isMarkFit}
+use Rattle.kept.proofs.Laws.Marks.{Marked, mark-highest, mark-lt, shifted}
+use Rattle.kept.proofs.Laws.Words.{everyBit-none, everyBit-fails, everyBit-drop}
+use Rattle.kept.proofs.marks.is_word_fit.Statement.{statement}
+use Rattle.kept.proofs.marks.is_word_fit.Tie as tie
 
 abbrev Inv-loop : tie.InvT-loop
 Inv-loop clusters n base word cluster rest₀ rest =

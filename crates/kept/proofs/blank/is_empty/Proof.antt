@@ -1,21 +1,20 @@
--- `kept::fitness::is_empty` meets its contract: one field after the other, then the results. Assumes nothing.
+-- `kept::blank::is_empty` meets its contract: one field after the other, then the results. Assumes nothing.
 use borrow.Author.Needs.{needs}
 use borrow.Author.Tests.{eq-eqb, ne-eqb}
 use mathlib.Core.Path.{_≡_, sym, _∙_}
 use mathlib.Core.Bool.{true, false}
 use mir.Syntax.{w32}
 use mir.Val.{SFits}
-use Rattle.kept.specs.Fit.{isZero}
-use Rattle.kept.specs.Fitness.{entryIn}
-use Rattle.kept.proofs.Laws.Fitness.{bits-zero, empty-is}
-use Rattle.kept.proofs.fitness.is_empty.Statement.{statement}
-use Rattle.kept.proofs.fitness.is_empty.Tie as tie
+use Rattle.laws.proofs.Signed.{bits-zero}
+use Rattle.kept.specs.Blank.{isZero}
+use Rattle.kept.proofs.blank.is_empty.Statement.{statement}
+use Rattle.kept.proofs.blank.is_empty.Tie as tie
 
 weight-fits : (s : tie.Start) → SFits w32 (s .args .row .weight)
 weight-fits s = search needs
 
 returns : tie.Need-returns
-returns c = sym (empty-is (entryIn (c .before .before .args .row)) ∙ rw (ne-eqb _ _ (c .if1 .taken)))
+returns c = rw (ne-eqb _ _ (c .if1 .taken))
 
 returns-2 : tie.Need-returns-2
 returns-2 c =
@@ -23,7 +22,7 @@ returns-2 c =
     let s = cluster .before .before in
     let weight : isZero (s .args .row .weight) ≡ false =
     sym (bits-zero w32 (s .args .row .weight) (weight-fits s)) ∙ ne-eqb _ _ (c .if2 .taken) in
-    sym (empty-is (entryIn (s .args .row)) ∙ rw (eq-eqb _ _ (cluster .if1 .left), weight))
+    rw (eq-eqb _ _ (cluster .if1 .left), weight)
 
 -- the weight is zero
 abbrev start : tie.Else2 → tie.Start
@@ -36,16 +35,14 @@ returns-3 : tie.Need-returns-3
 returns-3 c =
     let weight = c .before .before in
     let cluster = weight .before .before .before in
-    sym (empty-is (entryIn (start weight .args .row)) ∙ rw (eq-eqb _ _ (cluster .if1 .left), weightless weight, ne-eqb _ _ (c .if3 .taken)))
+    rw (eq-eqb _ _ (cluster .if1 .left), weightless weight, ne-eqb _ _ (c .if3 .taken))
 
 returns-4 : tie.Need-returns-4
 returns-4 c =
     let state = c .before in
     let weight = state .before .before in
     let cluster = weight .before .before .before in
-    c .is-blank .ensures
-    ∙ sym (empty-is (entryIn (start weight .args .row))
-    ∙ rw (eq-eqb _ _ (cluster .if1 .left), weightless weight, eq-eqb _ _ (state .if3 .left)))
+    rw (eq-eqb _ _ (cluster .if1 .left), weightless weight, eq-eqb _ _ (state .if3 .left)) (c .is-blank .ensures)
 
 pub is-empty-spec : {M : Type 1} → statement M
 is-empty-spec = tie.close (tie.spec returns returns-2 returns-3 (λ c κs. search needs) returns-4)

@@ -1,7 +1,7 @@
--- `kept::fitness::is_mark` meets its contract: one value after the other. Assumes nothing.
+-- `kept::results::is_mark` meets its contract: one value after the other. Assumes nothing.
 use borrow.Author.Tests.{eq-eqb, ne-eqb}
-use Rattle.kept.proofs.fitness.is_mark.Statement.{statement}
-use Rattle.kept.proofs.fitness.is_mark.Tie as tie
+use Rattle.kept.proofs.results.is_mark.Statement.{statement}
+use Rattle.kept.proofs.results.is_mark.Tie as tie
 
 returns : tie.Need-returns
 returns c = rw (eq-eqb _ _ (c .if1 .taken))

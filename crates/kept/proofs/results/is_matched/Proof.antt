@@ -1,6 +1,7 @@
--- `kept::fitness::is_told` meets its contract: a count of zero by itself, and any other by the row's own mark, the two words of marks and
+-- `kept::results::is_matched` meets its contract: a count of zero by itself, and any other by the row's own mark, the two words of marks and
 -- the best weight. Assumes nothing.
 use borrow.Author.Needs.{needs}
+use borrow.Author.Tests.{eq-eqb}
 use mathlib.Core.Path.{_≡_, sym, _∙_}
 use native.Mathlib.Omega.{arith}
 use denote.Ref.{now}
@@ -9,12 +10,13 @@ use mir.Facts.{toZ-ofZ}
 use mir.Syntax.{w64}
 use mir.Val.{Fits, SFits}
 use Rattle.laws.proofs.Taxa.{size-pos}
-use Rattle.kept.specs.Fit.{isTold}
-use Rattle.kept.specs.Fitness.{listedIn, resultIn}
-use Rattle.kept.specs.Arrays.{clustersDown}
-use Rattle.kept.proofs.Laws.Fitness.{passed, failed, told-none, toldTests, told-is}
-use Rattle.kept.proofs.fitness.is_told.Statement.{statement}
-use Rattle.kept.proofs.fitness.is_told.Tie as tie
+use Rattle.laws.proofs.Tests.{passed, failed}
+use Rattle.kept.specs.View.{clustersDown}
+use Rattle.kept.specs.Results.{isMatched}
+use Rattle.kept.specs.Fields.{listedIn, resultIn}
+use Rattle.kept.proofs.Laws.Results.{matchedTests, matched-is}
+use Rattle.kept.proofs.results.is_matched.Statement.{statement}
+use Rattle.kept.proofs.results.is_matched.Tie as tie
 
 -- ---- the fields are of their types
 cluster-fits : (s : tie.Start) → Fits w64 (s .args .row .cluster)
@@ -34,23 +36,20 @@ abbrev start : tie.Else1 → tie.Start
 start c = c .before .before .before
 
 live : (c : tie.Else1) → let a = start c .args in
-    isTold (clustersDown (now (a .clusters)) (a .n)) (listedIn (a .row)) (resultIn (a .row))
-    ≡ toldTests (now (a .clusters)) (a .n) (a .i) (a .row)
+    isMatched (clustersDown (now (a .clusters)) (a .n)) (listedIn (a .row)) (resultIn (a .row))
+    ≡ matchedTests (now (a .clusters)) (a .n) (a .i) (a .row)
 live c =
     let s = start c in
     let p = s .pre .0 in
-    told-is (now (s .args .clusters)) (s .args .n) (s .args .i) (s .args .row) (p .rising) (p .place) (p .own)
-    (c .if1 .left) (low-fits s .fits) (high-fits s .fits)
+    matched-is (now (s .args .clusters)) (s .args .n) (s .args .i) (s .args .row) (low-fits s .fits) (high-fits s .fits)
+    (c .if1 .left) (p .rising) (p .place) (p .own)
 
 -- ---- the exits
 is-nothing-requires : tie.Need-is-nothing-requires
 is-nothing-requires c κs = search needs
 
 returns : tie.Need-returns
-returns c =
-    let a = c .before .before .before .before .args in
-    c .is-nothing .ensures
-    ∙ sym (told-none (clustersDown (now (a .clusters)) (a .n)) (listedIn (a .row)) (resultIn (a .row)) (c .before .if1 .taken))
+returns c = rw (eq-eqb _ _ (c .before .if1 .taken)) (c .is-nothing .ensures)
 
 returns-2 : tie.Need-returns-2
 returns-2 c = sym (live (c .before .before) ∙ rw (failed (c .before .has-mark .ensures) (c .if2 .taken)))
@@ -97,8 +96,8 @@ returns-5 c =
       passed (high .before .is-word-fit2 .ensures) (high .if4 .left),
     ))
 
-pub is-told-spec : {M : Type 1} → statement M
-is-told-spec =
+pub is-matched-spec : {M : Type 1} → statement M
+is-matched-spec =
     tie.close
     (tie.spec
     is-nothing-requires

@@ -1,0 +1,59 @@
+-- `kept::rows::place_among` meets its contract. The invariant: what is found in all places is what is found from place i on, and i is at
+-- most n. The measure is the places left. Assumes nothing.
+use borrow.Author.Tests.{eq-eqb, ne-eqb}
+use mathlib.Core.Path.{_≡_, sym, _∙_}
+use Prim.Native.Nat.{_-_, _≤_}
+use native.Mathlib.Nat.{sub-zero}
+use native.Mathlib.Omega.{arith}
+use denote.Ref.{now}
+use Rattle.laws.specs.Lists.{firstFrom}
+use Rattle.laws.proofs.First.{first-passed, first-stopped, first-ended}
+use Rattle.kept.specs.Rows.{placeAmong}
+use Rattle.kept.proofs.Laws.Rows.{isClusterAt}
+use Rattle.kept.proofs.rows.place_among.Statement.{statement}
+use Rattle.kept.proofs.rows.place_among.Tie as tie
+
+abbrev Inv-loop : tie.InvT-loop
+Inv-loop clusters n cluster i₀ i = (i ≤ n) × (placeAmong clusters n cluster ≡ firstFrom (isClusterAt clusters cluster) i (n - i))
+
+abbrev μ-loop : tie.MeasureT-loop
+μ-loop clusters n cluster i₀ i = n - i
+
+loop-holds : tie.Need-loop-holds Inv-loop μ-loop
+loop-holds c = (omega arith, rw sub-zero)
+
+returns : tie.Need-returns Inv-loop μ-loop
+returns c =
+    let at-loop = c .before .before .before in
+    let a = at-loop .before .args in
+    let found = first-stopped (isClusterAt (now (a .clusters)) (a .cluster)) (at-loop .loop .i) (a .n) (omega arith) (eq-eqb _ _ (c .if1 .taken)) in
+    sym (at-loop .loop .inv .1 ∙ found)
+
+loop-again : tie.Need-loop-again Inv-loop μ-loop
+loop-again c =
+    let at-loop = c .before .before .before in
+    let a = at-loop .before .args in
+    let more = first-passed (isClusterAt (now (a .clusters)) (a .cluster)) (at-loop .loop .i) (a .n) (omega arith) (ne-eqb _ _ (c .if1 .left)) in
+    (omega arith, at-loop .loop .inv .1 ∙ more)
+
+returns-2 : tie.Need-returns-2 Inv-loop μ-loop
+returns-2 c =
+    let at-loop = c .before in
+    let a = at-loop .before .args in
+    sym (at-loop .loop .inv .1
+    ∙ first-ended (isClusterAt (now (a .clusters)) (a .cluster)) (at-loop .loop .i) (a .n) (at-loop .loop .inv .0) (c .loop-test .left))
+
+pub place-among-spec : {M : Type 1} → statement M
+place-among-spec =
+    tie.close
+    (tie.spec
+    Inv-loop
+    μ-loop
+    loop-holds
+    (λ c. omega arith)
+    (λ c. omega arith)
+    returns
+    (λ c. omega arith)
+    (λ c. omega arith)
+    loop-again
+    returns-2)

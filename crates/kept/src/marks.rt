@@ -1,0 +1,45 @@
+// The member marks of one row, walked by their set bits alone. Cites `specs/Marks.antt`, and `specs/Fields.antt` for the marks of a word.
+//     has_mark         whether a row is marked
+//     is_word_fit      whether each row that a word marks is there, and lies inside a cluster
+use crate::blank::Fields;
+use crate::limits::WORD_ROWS;
+use cluster::highest;
+use cluster::is_inside;
+ghost use mathlib.Core.Path.{_≡_};
+ghost use Prim.Native.Nat.{_≤_, _<_};
+ghost use lib.ListN.{length};
+ghost use Rattle.laws.specs.Limits.{rowCap};
+ghost use Rattle.kept.specs.Marks.{hasMark};
+ghost use Rattle.kept.specs.Fields.{resultIn, everyBit, isMarkFit};
+
+// Whether row `i` is marked in `row`.
+pub(crate) fn has_mark(row: Fields, i: usize) -> bool
+    requires { ⌜ i < rowCap ⌝ }
+    ensures { λ b. ⌜ b ≡ hasMark (resultIn row .members) i ⌝ }
+{
+    if i < WORD_ROWS {
+        return is_inside(1u64 << i, row.low);
+    }
+    is_inside(1u64 << (i - WORD_ROWS), row.high)
+}
+
+// Whether each row that a word marks is one of the first `n` and lies inside `cluster`; bit 0 of the word is row `base`.
+pub(crate) fn is_word_fit(clusters: &[u64], n: usize, base: usize, word: u64, cluster: u64) -> bool
+    requires { ⌜ n ≤ length (now clusters) ⌝ }
+    requires { ⌜ base ≤ 64 ⌝ }
+    ensures { λ b. ⌜ b ≡ everyBit word 64 (isMarkFit (now (clusters .entry)) n cluster base) ⌝ }
+{
+    let mut rest = word;
+    while rest != 0 {
+        let bit = highest(rest);
+        let j = base + bit as usize;
+        if n <= j {
+            return false;
+        }
+        if !is_inside(clusters[j], cluster) {
+            return false;
+        }
+        rest -= 1u64 << bit;
+    }
+    true
+}
