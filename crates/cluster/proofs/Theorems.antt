@@ -2,36 +2,40 @@
 --     value-only            one outcome where a promise is an equation to a value: the leaves, `broken_rule`, `is_kept`, `number_of`
 --     read-only             one outcome of `read_record`: the answer and the record
 --     write-only            one outcome of `write_record`: the answer and every byte of the room
---     kept-iff              no rule is broken exactly where the paper's sentences hold (`Keeps`, in `Laws/Rule.antt`)
+--     kept-iff, score-iff   no rule is broken exactly where the paper's sentences hold (`Keeps`, `KeepsScore` of `specs/Rule.antt`)
 --     read-accepts-iff      twelve bytes are accepted exactly when no rule is broken
 --     write-accepts-iff     and a record, where the room is long enough too
 --     read-write-back       what was written, read again, is the same record
 --     write-read-back       accepted bytes, read and written again, are the same bytes
 -- The numbers of the refusals are pinned in `Laws/Refusal.antt`.
 -- Assumes nothing.
-use mathlib.Core.Path.{_≡_, refl, sym, ap, _∙_}
+use mathlib.Core.Path.{_≡_, refl, sym, ap, ap₂, _∙_}
 use mathlib.Core.Logic.{_↔_}
 use mathlib.Core.Bool.{Bool, true, false}
 use mathlib.Core.List.{List, _++_}
 use Prim.Native.Nat.{ℕ, _^_, _≤_, _<_}
-use native.Mathlib.Decide.{ℕ-discrete, decLe}
-use native.Mathlib.Omega.{arith}
-use lib.Dec.{T}
+use lib.Dec.{T, eqb, ltb, eqb→eq}
+use lib.IntN.{ℤ}
 use lib.ListN.{length, getD, take, drop}
-use Rattle.laws.proofs.Tests.{true-T}
+use Rattle.laws.specs.Limits.{narrow}
+use Rattle.laws.proofs.Tests.{T-and, T-true, T-of-not, true-T}
+use Rattle.laws.proofs.Width.{narrow-facts}
 use Rattle.cluster.specs.declared.reading.Reading.{Reading}
 use Rattle.cluster.specs.declared.record.Record.{Record}
 use Rattle.cluster.specs.declared.refusal.Answer.{Answer}
 use Rattle.cluster.specs.declared.refusal.Answer.the-variants.{Done}
-use Rattle.cluster.specs.Bytes.{byteValues, wordBytes}
-use Rattle.cluster.specs.Record.{recordBytes, recordOf, hasSpare, bytesOf}
-use Rattle.cluster.specs.Rule.{brokenRule, isKept}
-use Rattle.cluster.specs.Reading.{ruleOf, Read, readAs, readingOf, readRecord}
-use Rattle.cluster.specs.Writing.{Wrote, wroteOf, writeRecord}
-use Rattle.cluster.proofs.Laws.Record.{recordOf-bytes, bytesOf-record}
-use Rattle.cluster.proofs.Laws.Rule.{Keeps, kept→keeps, keeps→kept}
-use Rattle.cluster.proofs.Laws.Reading.{readRecord-length, readRecord-broken, readRecord-kept, readingOf-inj}
-use Rattle.cluster.proofs.Laws.Writing.{writeRecord-broken, writeRecord-short, writeRecord-kept, wroteOf-inj}
+use Rattle.cluster.specs.Bytes.{byteValues}
+use Rattle.cluster.specs.Outcome.{Outcome, outcomeOf}
+use Rattle.cluster.specs.Record.{recordBytes, rowOf, rowIn, recordOf, hasSpare, bytesOf}
+use Rattle.cluster.specs.Rule.{brokenRule, isKept, isScore, keepsRules, Keeps, KeepsScore}
+use Rattle.cluster.specs.Reasons.{NoneApplies}
+use Rattle.cluster.specs.Reading.{ruleOf, zeroRecord, readingOf, readReasons, readRecord}
+use Rattle.cluster.specs.Writing.{writeReasons, writeRecord}
+use Rattle.cluster.proofs.Laws.Outcome.{outcome-only, accepts-iff, written-accepts-iff}
+use Rattle.cluster.proofs.Laws.Record.{recordOf-bytes, bytesOf-rule, bytesOf-row}
+use Rattle.cluster.proofs.Laws.Rule.{kept→keeps, keeps→kept, score→keeps, keeps→score}
+use Rattle.cluster.proofs.Laws.Reading.{readRecord-is, readRecord-kept}
+use Rattle.cluster.proofs.Laws.Writing.{writeRecord-is, writeRecord-kept}
 
 -- ---- two outcomes that a promise allows are equal
 
@@ -40,64 +44,75 @@ pub value-only : {A : Type 0} {v : A} (x y : A) → x ≡ v → y ≡ v → x �
 value-only x y p q = p ∙ sym q
 
 pub read-only : (l : List ℕ) (x y : Reading) → readingOf x ≡ readRecord l → readingOf y ≡ readRecord l → x ≡ y
-read-only l x y p q = readingOf-inj x y (p ∙ sym q)
+read-only l x y p q =
+    let e = outcome-only (x .answer) (y .answer) (x .«record») (y .«record») p q in
+    ap₂ (λ (a : Answer) (r : Record). record { answer = a; «record» = r }) (e .0) (e .1)
 
 pub write-only : (r : Record) (room : List ℕ) (a b : Answer) (l m : List ℕ)
-    → wroteOf a l ≡ writeRecord r room → wroteOf b m ≡ writeRecord r room → (a ≡ b) × (l ≡ m)
-write-only r room a b l m p q = wroteOf-inj a b l m (p ∙ sym q)
+    → outcomeOf a l ≡ writeRecord r room → outcomeOf b m ≡ writeRecord r room → (a ≡ b) × (l ≡ m)
+write-only r room a b l m p q = outcome-only a b l m p q
 
 -- ---- accepted exactly when no rule is broken
 
-pub kept-iff : (r : Record) (spare : Bool) → T (isKept (brokenRule r spare)) ↔ Keeps r spare
-kept-iff r spare = (kept→keeps r spare, keeps→kept r spare)
+pub kept-iff : (c : ℕ) (z : ℤ) (s : ℕ) (spare : Bool) → T (isKept (brokenRule c z s spare)) ↔ Keeps c z s spare
+kept-iff c z s spare = (kept→keeps c z s spare, keeps→kept c z s spare)
+
+pub score-iff : (z : ℤ) (s : ℕ) → T (isScore z s) ↔ KeepsScore z s
+score-iff z s = (score→keeps z s, keeps→score z s)
 
 module _ (l : List ℕ) where
-  number-of-read : {o : Read} → readRecord l ≡ o → readRecord l .sent .number ≡ o .sent .number
-  number-of-read e = ap (λ (o : Read). o .sent .number) e
+  abbrev bytesKept : Bool
+  bytesKept = isKept (ruleOf narrow l)
 
-  pub read-accepts-iff : (readRecord l .sent .number ≡ 0) ↔ ((length l ≡ recordBytes) × (isKept (ruleOf l) ≡ true))
-  read-accepts-iff =
-      let fits = ℕ-discrete (length l) recordBytes in
-      (accepted fits (isKept (ruleOf l)) refl, λ p. number-of-read (readRecord-kept l (p .0) (p .1)))
+  pub read-accepts-iff : (readRecord l .sent .number ≡ 0) ↔ ((length l ≡ recordBytes) × (isKept (ruleOf narrow l) ≡ true))
+  read-accepts-iff = (
+    λ n. accepted (accepts-iff (readReasons l) zeroRecord 0 (recordOf l) .0 (sym (number (readRecord-is l)) ∙ n)),
+    λ p. number (readRecord-kept l (p .0) (p .1)),
+  )
     where
-      accepted : Dec (length l ≡ recordBytes) → (b : Bool) → isKept (ruleOf l) ≡ b → readRecord l .sent .number ≡ 0
-          → (length l ≡ recordBytes) × (isKept (ruleOf l) ≡ true)
-      accepted (yes h) true e n = (h, e)
-      accepted (yes h) false e n = absurd (omega (arith, number-of-read (readRecord-broken l h e)))
-      accepted (no h) b e n = absurd (omega (arith, number-of-read (readRecord-length l h)))
+      number : {o : Outcome Record} → readRecord l ≡ o → readRecord l .sent .number ≡ o .sent .number
+      number e = ap (λ (o : Outcome Record). o .sent .number) e
+
+      accepted : NoneApplies (readReasons l) → (length l ≡ recordBytes) × (isKept (ruleOf narrow l) ≡ true)
+      accepted k =
+          (eqb→eq (length l) recordBytes (T-of-not (eqb (length l) recordBytes) (k .0)), T-true bytesKept (T-of-not bytesKept (k .1 .0)))
 
 module _ (r : Record) (room : List ℕ) where
-  number-of-write : {o : Wrote} → writeRecord r room ≡ o → writeRecord r room .sent .number ≡ o .sent .number
-  number-of-write e = ap (λ (o : Wrote). o .sent .number) e
+  abbrev kept : Bool
+  kept = isKept (brokenRule (r .cluster) (r .weight) (r .state) false)
 
-  pub write-accepts-iff : (writeRecord r room .sent .number ≡ 0) ↔ ((isKept (brokenRule r false) ≡ true) × (recordBytes ≤ length room))
-  write-accepts-iff =
-      let fits = decLe recordBytes (length room) in
-      (accepted fits (isKept (brokenRule r false)) refl, λ p. number-of-write (writeRecord-kept r room (p .0) (p .1)))
+  pub write-accepts-iff : (writeRecord r room .sent .number ≡ 0)
+      ↔ ((isKept (brokenRule (r .cluster) (r .weight) (r .state) false) ≡ true) × (recordBytes ≤ length room))
+  write-accepts-iff = (
+    λ n. accepted (written-accepts-iff (writeReasons r) (bytesOf narrow (rowIn r)) room .0 (sym (number (writeRecord-is r room)) ∙ n)),
+    λ p. number (writeRecord-kept r room (p .0) (p .1)),
+  )
     where
-      accepted : Dec (recordBytes ≤ length room) → (b : Bool) → isKept (brokenRule r false) ≡ b → writeRecord r room .sent .number ≡ 0
-          → (isKept (brokenRule r false) ≡ true) × (recordBytes ≤ length room)
-      accepted h false e n = absurd (omega (arith, number-of-write (writeRecord-broken r room e)))
-      accepted (yes h) true e n = (e, h)
-      accepted (no h) true e n = absurd (omega (arith, number-of-write (writeRecord-short r room e (omega arith))))
+      number : {o : Outcome (List ℕ)} → writeRecord r room ≡ o → writeRecord r room .sent .number ≡ o .sent .number
+      number e = ap (λ (o : Outcome (List ℕ)). o .sent .number) e
+
+      accepted : NoneApplies (writeReasons r) × (recordBytes ≤ length room) → (kept ≡ true) × (recordBytes ≤ length room)
+      accepted k = (T-true kept (T-of-not kept (k .0 .0)), k .1)
 
 -- ---- there and back again
 
 -- what was written into any room, read again, is the record
-pub read-write-back : (r : Record) (room : List ℕ) → r .cluster < byteValues ^ wordBytes → isKept (brokenRule r false) ≡ true
-    → recordBytes ≤ length room → readRecord (take recordBytes (writeRecord r room .room)) ≡ readAs r
-read-write-back r room small e h =
-    let back = recordOf-bytes r small (kept→keeps r false (true-T e)) in
-    ap (λ (o : Wrote). readRecord (take recordBytes (o .room))) (writeRecord-kept r room e h)
-    ∙ readRecord-kept (bytesOf r) refl (ap (λ (s : Record). isKept (brokenRule s false)) back ∙ e)
-    ∙ ap readAs back
+pub read-write-back : (r : Record) (room : List ℕ) → T (keepsRules narrow (rowIn r)) → recordBytes ≤ length room
+    → readRecord (take recordBytes (writeRecord r room .given)) ≡ outcomeOf (Done 0) r
+read-write-back r room h fits =
+    let e = T-true _ (T-and (ltb (r .cluster) (2 ^ narrow .taxa)) _ h .1) in
+    ap (λ (o : Outcome (List ℕ)). readRecord (take recordBytes (o .given))) (writeRecord-kept r room e fits)
+    ∙ readRecord-kept (bytesOf narrow (rowIn r)) refl (ap isKept (bytesOf-rule narrow (rowIn r) narrow-facts h) ∙ e)
+    ∙ ap (outcomeOf (Done 0)) (recordOf-bytes r h)
 
 -- accepted bytes, read and written into any room that is long enough, are the same bytes, with the room's own behind them
 pub write-read-back : (l room : List ℕ) → ((i : ℕ) → getD l i 0 < byteValues) → readRecord l .sent .number ≡ 0
-    → recordBytes ≤ length room → writeRecord (readRecord l .found) room ≡ wroteOf (Done recordBytes) (l ++ drop recordBytes room)
+    → recordBytes ≤ length room
+    → writeRecord (readRecord l .given) room ≡ outcomeOf (Done recordBytes) (l ++ drop recordBytes room)
 write-read-back l room byte n h =
     let p = read-accepts-iff l .0 n in
-    let clear = kept→keeps (recordOf l) (hasSpare l) (true-T (p .1)) .no-spare in
-    ap (λ (o : Read). writeRecord (o .found) room) (readRecord-kept l (p .0) (p .1))
-    ∙ writeRecord-kept (recordOf l) room (ap (λ (b : Bool). isKept (brokenRule (recordOf l) b)) (sym clear) ∙ p .1) h
-    ∙ ap (λ (s : List ℕ). wroteOf (Done recordBytes) (s ++ drop recordBytes room)) (bytesOf-record l byte (p .0) clear)
+    let r = rowOf narrow l in
+    let clear = kept→keeps (r .cluster) (r .weight) (r .state) (hasSpare narrow l) (true-T (p .1)) .no-spare in
+    ap (λ (o : Outcome Record). writeRecord (o .given) room) (readRecord-kept l (p .0) (p .1))
+    ∙ writeRecord-kept (recordOf l) room (ap (λ (b : Bool). isKept (brokenRule (r .cluster) (r .weight) (r .state) b)) (sym clear) ∙ p .1) h
+    ∙ ap (λ (s : List ℕ). outcomeOf (Done recordBytes) (s ++ drop recordBytes room)) (bytesOf-row narrow l byte (p .0) clear)

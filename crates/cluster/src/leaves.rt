@@ -1,17 +1,22 @@
-// Leaves on clusters: a cluster is a set of taxa, bit b being taxon b. Each is total on every value, 0 included, and has no loop.
-// Cites `specs/Cluster.antt` of the crate `laws`.
+// Leaves on clusters and states: a cluster is a set of taxa, bit b being taxon b. Each is total on every value, 0 included, and has no
+// loop. Cites `specs/Cluster.antt` and `specs/State.antt` of the crate `laws`.
 //     is_inside     every taxon of the first is one of the second's
 //     is_apart      no taxon is in both
 //     size          the number of taxa
 //     is_single     exactly one taxon
 //     highest       the largest taxon
 //     lowest        the smallest taxon
+//     is_scored     the state is that of a scored cluster
 ghost use mathlib.Core.Path.{_≡_};
 ghost use Rattle.laws.specs.Cluster.{inside, apart, single};
 ghost use Rattle.laws.specs.Cluster.{size as Cluster·size, highest as Cluster·highest, lowest as Cluster·lowest};
+ghost use Rattle.laws.specs.State.{scored};
 
 // The number of the highest taxon that a cluster can have.
 const LAST_TAXON: u32 = 63;
+
+// The state of a cluster with a score.
+const SCORED: u8 = 1;
 
 // Whether every taxon of `a` is one of `b`'s: so a cluster is inside itself, and no taxa are inside anything.
 pub fn is_inside(a: u64, b: u64) -> bool
@@ -53,4 +58,11 @@ pub fn lowest(c: u64) -> u32
     ensures { λ r. ⌜ r ≡ Cluster·lowest 64 c ⌝ }
 {
     u64::trailing_zeros(c)
+}
+
+// Whether the state is that of a scored cluster.
+pub fn is_scored(state: u8) -> bool
+    ensures { λ r. ⌜ r ≡ scored state ⌝ }
+{
+    state == SCORED
 }

@@ -5,12 +5,14 @@ use crate::record::RECORD_BYTES;
 use crate::record::Record;
 use crate::record::has_spare;
 use crate::record::record_of;
+use crate::record::rule_of;
 use crate::refusal::Answer;
 use crate::refusal::Refusal;
-use crate::rule::broken_rule;
 use crate::rule::is_kept;
 ghost use mathlib.Core.Path.{_≡_};
-ghost use Rattle.cluster.specs.Reading.{readingOf, notRead, readRecord};
+ghost use Rattle.cluster.specs.declared.refusal.Answer.the-variants.{Refused};
+ghost use Rattle.cluster.specs.Outcome.{outcomeOf};
+ghost use Rattle.cluster.specs.Reading.{readingOf, zeroRecord, readRecord};
 
 // What reading one record gives: the record is all zero where the answer is a refusal.
 pub struct Reading {
@@ -20,7 +22,7 @@ pub struct Reading {
 
 // A refused reading, whose record is all zero.
 fn not_read(refusal: Refusal) -> Reading
-    ensures { λ r. ⌜ readingOf r ≡ notRead refusal ⌝ }
+    ensures { λ r. ⌜ readingOf r ≡ outcomeOf (Refused refusal) zeroRecord ⌝ }
 {
     Reading {
         answer: Answer::Refused(refusal),
@@ -40,7 +42,7 @@ pub fn read_record(bytes: &[u8]) -> Reading
         return not_read(Refusal::WrongLength);
     }
     let record = record_of(bytes);
-    let rule = broken_rule(record, has_spare(bytes));
+    let rule = rule_of(record, has_spare(bytes));
     if is_kept(rule) {
         return Reading {
             answer: Answer::Done(0),

@@ -1,19 +1,18 @@
 // The record rules, in one function that tells which is broken first. Cites `specs/Rule.antt`.
 //     Rule            the rules, in the order in which they are tested
-//     broken_rule     the rule that a record breaks first
-//     is_kept         whether it breaks none
-use crate::record::Record;
+//     broken_rule     the rule that a cluster, a weight and a state break first
+//     is_kept         whether they break none
+//     is_score        whether a weight and a state break none, whatever the cluster
+use crate::leaves::is_scored;
 ghost use mathlib.Core.Path.{_≡_};
-ghost use Rattle.cluster.specs.Rule.{isState, inRange, unscoredWeight, brokenRule, isKept};
+ghost use Rattle.laws.specs.State.{isState};
+ghost use Rattle.cluster.specs.Rule.{inRange, unscoredWeight, brokenRule, isKept, isScore};
 
 // The state of a cluster without a score.
 const UNSCORED: u8 = 0;
 
-// The state of a cluster with a score.
-const SCORED: u8 = 1;
-
 // The largest weight, either way.
-const WEIGHT_MAX: i32 = 1000000;
+pub const WEIGHT_MAX: i32 = 1000000;
 
 // The record rule that is broken first, in this order.
 pub enum Rule {
@@ -38,7 +37,7 @@ fn is_state(state: u8) -> bool
     if state == UNSCORED {
         return true;
     }
-    state == SCORED
+    is_scored(state)
 }
 
 // Whether a weight is in range.
@@ -51,36 +50,49 @@ fn is_in_range(weight: i32) -> bool
     weight <= WEIGHT_MAX
 }
 
-// Whether the record is unscored and has a weight.
-fn has_unscored_weight(r: Record) -> bool
-    ensures { λ b. ⌜ b ≡ unscoredWeight r ⌝ }
+// Whether the state is unscored and there is a weight.
+fn has_unscored_weight(weight: i32, state: u8) -> bool
+    ensures { λ b. ⌜ b ≡ unscoredWeight weight state ⌝ }
 {
-    if r.state != UNSCORED {
+    if state != UNSCORED {
         return false;
     }
-    r.weight != 0
+    weight != 0
 }
 
-// The record rule that `r` breaks first, `spare` being whether a spare byte is set beside it.
-pub fn broken_rule(r: Record, spare: bool) -> Rule
-    ensures { λ rule. ⌜ rule ≡ brokenRule r spare ⌝ }
+// The record rule that cluster, weight and state break first, `spare` being whether a spare byte is set beside them.
+pub fn broken_rule(cluster: u64, weight: i32, state: u8, spare: bool) -> Rule
+    ensures { λ rule. ⌜ rule ≡ brokenRule cluster weight state spare ⌝ }
 {
-    if r.cluster == 0 {
+    if cluster == 0 {
         return Rule::EmptyCluster;
     }
-    if !is_state(r.state) {
+    if !is_state(state) {
         return Rule::UnknownState;
     }
     if spare {
         return Rule::SpareBytes;
     }
-    if has_unscored_weight(r) {
+    if has_unscored_weight(weight, state) {
         return Rule::UnscoredWeight;
     }
-    if is_in_range(r.weight) {
+    if is_in_range(weight) {
         return Rule::Kept;
     }
     Rule::WeightRange
+}
+
+// Whether weight and state keep the rules, whatever the cluster.
+pub fn is_score(weight: i32, state: u8) -> bool
+    ensures { λ b. ⌜ b ≡ isScore weight state ⌝ }
+{
+    if !is_state(state) {
+        return false;
+    }
+    if has_unscored_weight(weight, state) {
+        return false;
+    }
+    is_in_range(weight)
 }
 
 // Whether no rule is broken.

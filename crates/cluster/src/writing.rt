@@ -3,19 +3,20 @@
 use crate::record::RECORD_BYTES;
 use crate::record::Record;
 use crate::record::put_record;
+use crate::record::rule_of;
 use crate::refusal::Answer;
 use crate::refusal::Refusal;
-use crate::rule::broken_rule;
 use crate::rule::is_kept;
 ghost use mathlib.Core.Path.{_≡_};
-ghost use Rattle.cluster.specs.Writing.{wroteOf, writeRecord};
+ghost use Rattle.cluster.specs.Outcome.{outcomeOf};
+ghost use Rattle.cluster.specs.Writing.{writeRecord};
 
 // A record that keeps the rules, written into the first twelve bytes of a room; the answer tells twelve. Refused 5 for a record
 // that breaks a rule, then 11 for a shorter room, which is left as it was.
 pub fn write_record(r: Record, room: &mut [u8]) -> Answer
-    ensures { λ a. ⌜ wroteOf a (now (room .exit)) ≡ writeRecord r (now (room .entry)) ⌝ }
+    ensures { λ a. ⌜ outcomeOf a (now (room .exit)) ≡ writeRecord r (now (room .entry)) ⌝ }
 {
-    let rule = broken_rule(r, false);
+    let rule = rule_of(r, false);
     if !is_kept(rule) {
         return Answer::Refused(Refusal::BadRecord(0));
     }

@@ -1,20 +1,18 @@
 -- What a fit table is, sentence by sentence (document 01, "The table"). A row's results: `Results.antt`. Laws: `proofs/Laws/Fit.antt`.
---     keepsRules W r           cluster within the width, weight and state by the record rules
 --     fitEntry W cs e          a row of the table whose clusters are cs
 --     isRising cs n            the first n clusters ascend strictly
 --     isRowRight W cs n i e    row i of a table of n rows: fit, or past them and all zero
 --     hasRightRows W cs t n k  the first k rows are so
 --     isFit W t                the whole
 -- Assumes nothing.
-use mathlib.Core.Bool.{Bool, false, cond, _&&_}
+use mathlib.Core.Bool.{Bool, cond, _&&_}
 use mathlib.Core.List.{List}
-use Prim.Native.Nat.{ℕ, suc, _-_, _^_}
+use Prim.Native.Nat.{ℕ, suc, _-_}
 use lib.Dec.{leb, ltb}
 use lib.ListN.{getD}
 use Rattle.laws.specs.Limits.{Width, isDegree, rowCap}
 use Rattle.laws.specs.Lists.{every, places}
-use Rattle.laws.specs.Row.{Row}
-use Rattle.cluster.specs.Rule.{brokenRule, isKept}
+use Rattle.cluster.specs.Rule.{keepsRules}
 use Rattle.trees.specs.Rows.{Entry}
 use Rattle.trees.specs.Result.{Result}
 use Rattle.kept.specs.declared.table.Table.{Table}
@@ -23,11 +21,6 @@ use Rattle.kept.specs.Blank.{isEmpty}
 use Rattle.kept.specs.Results.{isRanged, isMatched}
 
 -- ---- a row
-abbrev pub keepsRules : Width → Row → Bool
-keepsRules W r =
-    ltb (r .cluster) (2 ^ W .taxa)
-    && isKept (brokenRule (record { cluster = r .cluster; weight = r .weight; state = r .state }) false)
-
 abbrev pub fitEntry : Width → List ℕ → Entry Result → Bool
 fitEntry W cs e = keepsRules W (e .row) && (isRanged W (e .row) (e .val) && isMatched cs (e .row) (e .val))
 

@@ -15,7 +15,6 @@ use crate::limits::TAXA_VALUES;
 use crate::results::is_matched;
 use crate::results::is_ranged;
 use crate::table::Table;
-use cluster::Record;
 use cluster::broken_rule;
 use cluster::is_kept;
 ghost use mathlib.Core.Path.{_≡_};
@@ -23,11 +22,12 @@ ghost use Prim.Native.Nat.{_≤_, _<_};
 ghost use lib.ListN.{length};
 ghost use Rattle.laws.specs.Limits.{narrow, rowCap};
 ghost use Rattle.kept.specs.View.{clustersDown};
-ghost use Rattle.kept.specs.Fit.{keepsRules, fitEntry, isRising, isRowRight, hasRightRows, isFit};
+ghost use Rattle.cluster.specs.Rule.{keepsRules};
+ghost use Rattle.kept.specs.Fit.{fitEntry, isRising, isRowRight, hasRightRows, isFit};
 ghost use Rattle.kept.specs.Arrays.{Rising};
 ghost use Rattle.kept.specs.Fields.{listedIn, entryIn, Placed};
 
-// Whether cluster, weight and state keep the record rules. The cluster is held to 32 bits before it is cast.
+// Whether cluster, weight and state keep the record rules, and the cluster is within the width.
 fn is_record(row: Fields) -> bool
     ensures { λ b. ⌜ b ≡ keepsRules narrow (listedIn row) ⌝ }
 {
@@ -35,14 +35,7 @@ fn is_record(row: Fields) -> bool
         return false;
     }
     let weight = row.weight;
-    is_kept(broken_rule(
-        Record {
-            cluster: row.cluster as u32,
-            weight,
-            state: row.state,
-        },
-        false,
-    ))
+    is_kept(broken_rule(row.cluster, weight, row.state, false))
 }
 
 // Whether row `i` of the first `n` is fit.

@@ -16,7 +16,6 @@ pub use fitness::is_fit;
 pub use limits::COUNT_MAX;
 pub use limits::DEGREE_HIGH;
 pub use limits::DEGREE_LOW;
-pub use limits::SCORED;
 pub use limits::WORD_ROWS;
 pub use rows::leaf_set;
 pub use rows::place_of;

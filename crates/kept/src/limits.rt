@@ -10,13 +10,9 @@ pub const COUNT_MAX: u64 = 4294967295;
 
 pub(crate) const LENGTH_MAX: u64 = 10676001;
 
-pub(crate) const WEIGHT_MAX: i64 = 1000000;
-
 pub const DEGREE_LOW: u32 = 3;
 
 pub const DEGREE_HIGH: u32 = 5;
-
-pub const SCORED: u8 = 1;
 
 // Rows whose marks are in the low word.
 pub const WORD_ROWS: usize = 64;

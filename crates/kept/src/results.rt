@@ -7,11 +7,11 @@ use crate::blank::is_blank;
 use crate::blank::is_nothing;
 use crate::limits::COUNT_MAX;
 use crate::limits::LENGTH_MAX;
-use crate::limits::SCORED;
-use crate::limits::WEIGHT_MAX;
 use crate::limits::WORD_ROWS;
 use crate::marks::has_mark;
 use crate::marks::is_word_fit;
+use cluster::WEIGHT_MAX;
+use cluster::is_scored;
 use cluster::is_single;
 use cluster::size;
 ghost use mathlib.Core.Path.{_≡_};
@@ -60,7 +60,7 @@ pub(crate) fn is_ranged(row: Fields) -> bool
     if !is_mark(row.mark, row.count) {
         return false;
     }
-    if row.state == SCORED {
+    if is_scored(row.state) {
         return true;
     }
     is_blank(row)
@@ -71,7 +71,7 @@ fn is_light(best: i64, taxa: u32) -> bool
     requires { ⌜ (1 ≤ taxa) × (taxa ≤ 64) ⌝ }
     ensures { λ b. ⌜ b ≡ isLight best taxa ⌝ }
 {
-    let most = WEIGHT_MAX * ((2 * taxa - 1) as i64);
+    let most = (WEIGHT_MAX as i64) * ((2 * taxa - 1) as i64);
     if best < -most {
         return false;
     }

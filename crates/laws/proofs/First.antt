@@ -3,13 +3,16 @@
 --     first-low, first-high     where it lies
 --     first-before, first-at    no place before it passes, and it passes itself where it is one of the places
 --     first-of, first-all       the place that passes and has none before it that does; where none passes
+--     found-iff, unfound-iff    of the places below n one passes first, or none passes
 -- Assumes nothing.
 use mathlib.Core.Path.{_≡_, refl, _∙_}
+use mathlib.Core.Logic.{_↔_}
 use mathlib.Core.Bool.{Bool, true, false, cond}
 use Prim.Native.Nat.{ℕ, zero, suc, _+_, _-_, _≤_, _<_}
 use native.Mathlib.Decide.{decLe}
 use native.Mathlib.Numerals.{add-one}
 use native.Mathlib.Omega.{arith}
+use lib.Dec.{T, ltb, ltb→lt, lt→ltb}
 use Rattle.laws.specs.Lists.{firstFrom}
 
 module _ (p : ℕ → Bool) where
@@ -77,3 +80,32 @@ module _ (p : ℕ → Bool) where
   first-all i (suc k) f =
       let e : suc i + k ≡ i + suc k = omega arith in
       rw (f i (omega arith) (omega arith)) (first-all (suc i) k (λ j a b. f j (omega arith) (omega arith)) ∙ e)
+
+-- ---- the places below n
+module _ (p : ℕ → Bool) (n : ℕ) where
+  pub found-iff : (i : ℕ)
+      → (T (ltb (firstFrom p 0 n) n) × (firstFrom p 0 n ≡ i)) ↔ ((i < n) × (p i ≡ true) × ((j : ℕ) → j < i → p j ≡ false))
+  found-iff i = (to, from)
+    where
+      to : T (ltb (firstFrom p 0 n) n) × (firstFrom p 0 n ≡ i) → (i < n) × (p i ≡ true) × ((j : ℕ) → j < i → p j ≡ false)
+      to k =
+          let h = ltb→lt (firstFrom p 0 n) n (k .0) in (
+            omega (arith, h, k .1),
+            rw (k .1) at (first-at p 0 n (omega (arith, h))),
+            λ j a. first-before p 0 n j (omega arith) (omega (arith, k .1)),
+          )
+
+      from : (i < n) × (p i ≡ true) × ((j : ℕ) → j < i → p j ≡ false) → T (ltb (firstFrom p 0 n) n) × (firstFrom p 0 n ≡ i)
+      from k =
+          let e = first-of p 0 n i (omega arith) (omega (arith, k .0)) (k .1) (λ j _ b. k .2 j b) in
+          (lt→ltb (firstFrom p 0 n) n (omega (arith, e, k .0)), e)
+
+  pub unfound-iff : (T (ltb (firstFrom p 0 n) n) → ⊥) ↔ ((j : ℕ) → j < n → p j ≡ false)
+  unfound-iff = (to (decLe n (firstFrom p 0 n)), from)
+    where
+      to : Dec (n ≤ firstFrom p 0 n) → (T (ltb (firstFrom p 0 n) n) → ⊥) → (j : ℕ) → j < n → p j ≡ false
+      to (yes h) k j a = first-before p 0 n j (omega arith) (omega arith)
+      to (no h) k j a = absurd (k (lt→ltb (firstFrom p 0 n) n (omega arith)))
+
+      from : ((j : ℕ) → j < n → p j ≡ false) → T (ltb (firstFrom p 0 n) n) → ⊥
+      from k t = omega (arith, first-all p 0 n (λ j a b. k j (omega arith)), ltb→lt (firstFrom p 0 n) n t)

@@ -36,9 +36,15 @@ pub mod Lowest
 pub mod Split
 -- signed numbers and their bits in two's complement, of any width
 pub mod Signed
+-- lists put in order
+pub mod Sort
 -- what stands in ascending places, the largest first
 pub mod Down
 -- the first place that passes a test
 pub mod First
+-- the states of a record
+pub mod State
+-- one field of rows in an array
+pub mod Column
 -- what is asked of a width holds of the paper's own
 pub mod Width

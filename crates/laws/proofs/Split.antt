@@ -1,13 +1,18 @@
 -- Lists one behind another, taken apart and put together.
 --     every-append       both pass a test
+--     part-front         a part that lies in the first
 --     Parted s t         neither has an element twice, and they share none
 --     once-of-append     so it is where one behind the other has no element twice
 -- Assumes nothing.
-use mathlib.Core.Path.{sym}
+use mathlib.Core.Path.{_≡_, sym, ap, _∙_}
 use mathlib.Core.Bool.{Bool}
 use mathlib.Core.List.{List, [], _∷_, _++_, Memᴰ·append-left, Memᴰ·append-right, Memᴰ·cast}
 use mathlib.Core.List.{List·Memᴰ as Mem, List·Memᴰ·head as here, List·Memᴰ·tail as there, List·Memᴰ·not-nil as mem-nil}
+use Prim.Native.Nat.{ℕ, _+_, _≤_}
+use native.Mathlib.Omega.{arith}
 use lib.Dec.{T}
+use lib.ListN.{length, take, drop, length-drop}
+use lib.Seq.{take-append-le, drop-append-le}
 use Rattle.laws.specs.Lists.{every, Once}
 use Rattle.laws.proofs.Tests.{T-and, and-T}
 
@@ -17,6 +22,10 @@ module _ {A : Type 0} where
   every-append p (x ∷ xs) t h k =
       let q = T-and (p x) (every p xs) h in
       and-T (p x) (every p (xs ++ t)) (q .0) (every-append p xs t (q .1) k)
+
+  pub part-front : (s t : List A) (k n : ℕ) → k + n ≤ length s → take n (drop k (s ++ t)) ≡ take n (drop k s)
+  part-front s t k n h =
+      ap (take n) (drop-append-le k s t (omega arith)) ∙ take-append-le n (drop k s) t (omega (arith, length-drop k s))
 
   pub record Parted (s t : List A) : Type 0 where
     pub left : Once s

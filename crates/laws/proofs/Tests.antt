@@ -7,6 +7,7 @@
 --     true-T            and back
 --     passed, failed    what a call of the code told, a its answer and b its promise
 --     cond-true, cond-false     what is chosen by such a test
+--     T-of-not          a test passes where it can't fail
 --     bool-ext          tests that pass together are equal
 --     or-split          a test is itself with a second test, or without it
 --     eq→eqb            equal numbers pass the test of equality
@@ -86,6 +87,10 @@ T-true false h = absurd h
 pub T-false : (b : Bool) → (T b → ⊥) → b ≡ false
 T-false true h = absurd (h tt)
 T-false false h = refl
+
+pub T-of-not : (b : Bool) → (T (not b) → ⊥) → T b
+T-of-not true h = tt
+T-of-not false h = h tt
 
 pub cond-true : {A : Type 0} (b : Bool) (x y : A) → T b → cond b x y ≡ x
 cond-true true x y h = refl

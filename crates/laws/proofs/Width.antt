@@ -2,8 +2,8 @@
 --     few-high         tuples at the largest degree bound, in steps that compute
 --     narrow-facts     `WidthFacts` of `specs/Limits.antt`, for `narrow`
 -- Assumes nothing.
-use mathlib.Core.Path.{_≡_, refl, subst}
-use Prim.Native.Nat.{ℕ, _-_, _≤_, _<_}
+use mathlib.Core.Path.{refl, subst}
+use Prim.Native.Nat.{ℕ, _-_, _≤_}
 use native.Mathlib.Omega.{arith}
 use Rattle.laws.specs.Limits.{narrow, degreeHigh, few, WidthFacts}
 use Rattle.laws.proofs.Choose.{few-mono, fewFour, few-four}

@@ -14,7 +14,7 @@ use Rattle.laws.specs.Cluster.{inside, strict, nested, single, size, taxa}
 use Rattle.laws.specs.Lists.{keep, every, any}
 use Rattle.laws.proofs.Appended.{mem-reverse, mem-of-reverse, once-reverse, every-reverse, any-reverse, keep-reverse}
 use Rattle.trees.specs.Tree.{children, isTree}
-use Rattle.shapes.specs.Shape.{clustersOf}
+use Rattle.shapes.specs.Shape.{verticesOf}
 use Rattle.shapes.specs.Text.{textBytes}
 use Rattle.shapes.specs.Drawn.{shapeOf, textOf}
 use Rattle.shapes.proofs.Only.{Same}
@@ -79,5 +79,5 @@ module _ (xs : List ℕ) (C : ℕ) (tree : TreeOn xs C) where
       (shape-ordered (reverse xs) C on-reverse) (shape-once (reverse xs) C on-reverse)
       (record { to = λ c m. mem-of-reverse xs (same .to c m); from = λ c m. same .from c (mem-reverse xs m) }))
     where
-      same : Same (clustersOf (shapeOf (size C) (reverse xs) C)) (reverse xs)
+      same : Same (verticesOf (shapeOf (size C) (reverse xs) C)) (reverse xs)
       same = shape-clusters (reverse xs) C on-reverse

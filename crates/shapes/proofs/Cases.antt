@@ -1,23 +1,18 @@
 -- The texts that document 01 prints ("Bench examples"), each from the members of its tree: one computed table. It pins the bytes, which no
 -- law speaks of.
---     bytesOf s        the bytes of a text in plain characters
 --     Case             a tree's members and top, and its text
 --     cases            P1, P3, P5, P6, P8, and taxa of two figures
 --     cases-hold       each text is that of its tree
 -- Assumes nothing.
 use mathlib.Core.Path.{_≡_, refl}
 use mathlib.Core.List.{List, [], _∷_, map}
-use Prim.Native.Char.{code}
 use Prim.Native.Nat.{ℕ}
-use Prim.Native.String.{String, [] as end, _∷_ as then}
+use Prim.Native.String.{String}
 use lib.Count.{ones, onesIn, trailingZeros}
 use Rattle.laws.specs.Cluster.{inside, single}
+use Rattle.shapes.specs.Characters.{characters}
 use Rattle.shapes.specs.Decimal.{figures}
 use Rattle.shapes.specs.Drawn.{shapeOf, textOf}
-
-abbrev pub bytesOf : String → List ℕ
-bytesOf end = []
-bytesOf (then c s) = code c ∷ bytesOf s
 
 pub record Case : Type 0 where
   pub members : List ℕ
@@ -34,6 +29,6 @@ cases =
     ∷ record { members = 1536 ∷ 1024 ∷ 512 ∷ []; top = 1536; text = "(9,10);" }
     ∷ []
 
-pub cases-hold : map (λ (c : Case). textOf (c .members) (c .top)) cases ≡ map (λ (c : Case). bytesOf (c .text)) cases
+pub cases-hold : map (λ (c : Case). textOf (c .members) (c .top)) cases ≡ map (λ (c : Case). characters (c .text)) cases
 unfolding shapeOf figures inside single ones onesIn trailingZeros
 cases-hold = refl

@@ -21,7 +21,7 @@ use Rattle.laws.proofs.Digits.{has-lt, has-pow}
 use Rattle.laws.proofs.Cluster.{inside-refl, inside-trans, inside-antisym, strict→, →strict, zero-of-apart, apart-of-inside}
 use Rattle.laws.proofs.Taxa.{single→, inside-single, size-pos, size-lt}
 use Rattle.laws.proofs.Lowest.{lowest-taxon}
-use Rattle.shapes.specs.Shape.{Shape, taxon, vertex, topOf, topsOf, clustersOf, clustersIn, smallest, ascends, isOrdered, areOrdered}
+use Rattle.shapes.specs.Shape.{Shape, taxon, vertex, topOf, topsOf, verticesOf, verticesIn, smallest, ascends, isOrdered, areOrdered}
 use Rattle.shapes.specs.Drawn.{childrenInOrder, shapesBy, shapeOf}
 use Rattle.shapes.proofs.Sorted.{rising-map}
 use Rattle.shapes.proofs.Nests.{Nests, Child, child-over, children-apart}
@@ -30,16 +30,16 @@ use Rattle.shapes.proofs.Parts.{in-order→, →in-order, order-rising,
 pub record Draws (xs : List ℕ) (C : ℕ) (s : Shape) : Type 0 where
   pub top : topOf s ≡ C
   pub ordered : T (isOrdered s)
-  pub sound : (c : ℕ) → Mem c (clustersOf s) → Mem c xs × T (inside c C)
-  pub complete : (c : ℕ) → Mem c xs → T (inside c C) → Mem c (clustersOf s)
-  pub once : Once (clustersOf s)
+  pub sound : (c : ℕ) → Mem c (verticesOf s) → Mem c xs × T (inside c C)
+  pub complete : (c : ℕ) → Mem c xs → T (inside c C) → Mem c (verticesOf s)
+  pub once : Once (verticesOf s)
 
 -- ---- shapes of several clusters
 
 module _ (f : ℕ → Shape) where
-  clusters-by : (cs : List ℕ) → clustersIn (shapesBy f cs) ≡ bind (λ (c : ℕ). clustersOf (f c)) cs
+  clusters-by : (cs : List ℕ) → verticesIn (shapesBy f cs) ≡ bind (λ (c : ℕ). verticesOf (f c)) cs
   clusters-by [] = refl
-  clusters-by (c ∷ cs) = ap (λ (l : List ℕ). clustersOf (f c) ++ l) (clusters-by cs)
+  clusters-by (c ∷ cs) = ap (λ (l : List ℕ). verticesOf (f c) ++ l) (clusters-by cs)
 
   tops-by : (cs : List ℕ) → ((c : ℕ) → Mem c cs → topOf (f c) ≡ c) → topsOf (shapesBy f cs) ≡ cs
   tops-by [] g = refl
@@ -79,14 +79,14 @@ module _ (xs : List ℕ) (N : Nests xs) (C : ℕ) (m : Mem C xs) where
     order = childrenInOrder xs C
 
     abbrev beneath : List ℕ
-    beneath = bind (λ (c : ℕ). clustersOf (f c)) order
+    beneath = bind (λ (c : ℕ). verticesOf (f c)) order
 
     tops : topsOf (shapesBy f order) ≡ order
     tops = tops-by f order (λ c k. g c (in-order→ xs N C c k) .top)
 
     beneath→ : (c : ℕ) → Mem c beneath → (k : ℕ) × Child xs C k × Mem c xs × T (inside c k)
     beneath→ c j =
-        let q = mem-of-bind (λ (x : ℕ). clustersOf (f x)) order j in
+        let q = mem-of-bind (λ (x : ℕ). verticesOf (f x)) order j in
         let k = in-order→ xs N C (q .0) (q .1) in
         let d = g (q .0) k .sound c (q .2) in
         (q .0, k, d .0, d .1)
@@ -94,7 +94,7 @@ module _ (xs : List ℕ) (N : Nests xs) (C : ℕ) (m : Mem C xs) where
     →beneath : (c : ℕ) → Mem c xs → T (strict c C) → Mem c beneath
     →beneath c k s =
         let q = child-over xs N C c k s in
-        mem-bind (λ (x : ℕ). clustersOf (f x)) order (→in-order xs N C (q .0) (q .1)) (g (q .0) (q .1) .complete c k (q .2))
+        mem-bind (λ (x : ℕ). verticesOf (f x)) order (→in-order xs N C (q .0) (q .1)) (g (q .0) (q .1) .complete c k (q .2))
 
     beneath-top : Mem C beneath → ⊥
     beneath-top j =
@@ -104,10 +104,10 @@ module _ (xs : List ℕ) (N : Nests xs) (C : ℕ) (m : Mem C xs) where
 
     beneath-once : Once beneath
     beneath-once =
-        once-bind (λ (c : ℕ). clustersOf (f c)) order (order-once xs N C) (λ c k. g c (in-order→ xs N C c k) .once)
+        once-bind (λ (c : ℕ). verticesOf (f c)) order (order-once xs N C) (λ c k. g c (in-order→ xs N C c k) .once)
         (λ a b c j k p q. same a b c (in-order→ xs N C a j) (in-order→ xs N C b k) p q)
       where
-        same : (a b c : ℕ) → Child xs C a → Child xs C b → Mem c (clustersOf (f a)) → Mem c (clustersOf (f b)) → a ≡ b
+        same : (a b c : ℕ) → Child xs C a → Child xs C b → Mem c (verticesOf (f a)) → Mem c (verticesOf (f b)) → a ≡ b
         same a b c j k p q = go (ℕ-discrete a b)
           where
             go : Dec (a ≡ b) → a ≡ b
@@ -120,7 +120,7 @@ module _ (xs : List ℕ) (N : Nests xs) (C : ℕ) (m : Mem C xs) where
     top-is : unionOf (topsOf (shapesBy f order)) ≡ C
     top-is = ap unionOf tops ∙ order-union xs N C m more
 
-    clusters-are : clustersOf (vertex (shapesBy f order)) ≡ C ∷ beneath
+    clusters-are : verticesOf (vertex (shapesBy f order)) ≡ C ∷ beneath
     clusters-are = ap₂ (λ (c : ℕ) (l : List ℕ). c ∷ l) top-is (clusters-by f order)
 
     in-order : T (isOrdered (vertex (shapesBy f order)))

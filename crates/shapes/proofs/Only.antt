@@ -19,7 +19,7 @@ use Rattle.laws.proofs.Digits.{Has, has-pow, pow-has}
 use Rattle.laws.proofs.Cluster.{inside-refl, inside-trans, inside-antisym, apart-of-inside, zero-of-apart, inside-unionOf}
 use Rattle.trees.specs.Tuple.{allApart}
 use Rattle.trees.proofs.Sets.Tuples.{→tuple, part-other, apart-of-tuple, apart-rest}
-use Rattle.shapes.specs.Shape.{Shape, taxon, vertex, Shapes, none, more, topOf, topsOf, clustersOf, clustersIn}
+use Rattle.shapes.specs.Shape.{Shape, taxon, vertex, Shapes, none, more, topOf, topsOf, verticesOf, verticesIn}
 use Rattle.shapes.specs.Shape.{smallest, isOrdered, areOrdered}
 use Rattle.shapes.proofs.Sorted.{rising-only, map-rising}
 use Rattle.shapes.proofs.Shape.{top-cluster, tops-clusters, cluster-inside, clusters-inside, first-top, Ordered, ordered→}
@@ -53,27 +53,27 @@ top-other ss g k m =
     let h = →tuple (suc (length l)) (unionOf l) l (record { two = g .ordered .two; few = omega arith; union = refl; apart = g .apart }) in
     part-other (suc (length l)) (unionOf l) l (tops-nonzero ss (g .ordered .each)) h k m
 
-top-beneath : (ss : Shapes) → Good ss → Mem (unionOf (topsOf ss)) (clustersIn ss) → ⊥
+top-beneath : (ss : Shapes) → Good ss → Mem (unionOf (topsOf ss)) (verticesIn ss) → ⊥
 top-beneath ss g m =
     let q = clusters-inside ss (unionOf (topsOf ss)) m in
     top-other ss g (q .0) (q .1) (inside-antisym (q .0) (unionOf (topsOf ss)) (inside-unionOf (topsOf ss) (q .0) (q .1)) (q .2))
 
-top-same : (s s′ : Shape) → Same (clustersOf s) (clustersOf s′) → topOf s ≡ topOf s′
+top-same : (s s′ : Shape) → Same (verticesOf s) (verticesOf s′) → topOf s ≡ topOf s′
 top-same s s′ h =
     inside-antisym (topOf s) (topOf s′) (cluster-inside s′ (topOf s) (h .to (topOf s) (top-cluster s)))
     (cluster-inside s (topOf s′) (h .from (topOf s′) (top-cluster s′)))
 
 -- the clusters beneath the top are the same too
-beneath-part : (ss ss′ : Shapes) → Good ss → Same (clustersOf (vertex ss)) (clustersOf (vertex ss′))
-    → (c : ℕ) → Mem c (clustersIn ss) → Mem c (clustersIn ss′)
+beneath-part : (ss ss′ : Shapes) → Good ss → Same (verticesOf (vertex ss)) (verticesOf (vertex ss′))
+    → (c : ℕ) → Mem c (verticesIn ss) → Mem c (verticesIn ss′)
 beneath-part ss ss′ g h c m = go (h .to c (there m))
   where
-    go : Mem c (clustersOf (vertex ss′)) → Mem c (clustersIn ss′)
+    go : Mem c (verticesOf (vertex ss′)) → Mem c (verticesIn ss′)
     go (here e) = absurd (top-beneath ss g (Memᴰ·cast (top-same (vertex ss) (vertex ss′) h ∙ sym e) m))
     go (there k) = k
 
 -- and so are the tops of the children: a top lies in a top of the other's, which lies in one that isn't apart from the first
-tops-part : (ss ss′ : Shapes) → Good ss → Same (clustersIn ss) (clustersIn ss′) → (k : ℕ) → Mem k (topsOf ss) → Mem k (topsOf ss′)
+tops-part : (ss ss′ : Shapes) → Good ss → Same (verticesIn ss) (verticesIn ss′) → (k : ℕ) → Mem k (topsOf ss) → Mem k (topsOf ss′)
 tops-part ss ss′ g h k m = go (apart-of-tuple (topsOf ss) (g .apart) k (r .0) m (r .1))
   where
     q : (x : ℕ) × Mem x (topsOf ss′) × T (inside k x)
@@ -88,11 +88,11 @@ tops-part ss ss′ g h k m = go (apart-of-tuple (topsOf ss) (g .apart) k (r .0) 
         absurd (tops-nonzero ss (g .ordered .each) k m
         (zero-of-apart k (apart-of-inside k (r .0) k k a (inside-refl k) (inside-trans k (q .0) (r .0) (q .2) (r .2)))))
 
-tops-same : (ss ss′ : Shapes) → Good ss → Good ss′ → Same (clustersIn ss) (clustersIn ss′) → topsOf ss ≡ topsOf ss′
+tops-same : (ss ss′ : Shapes) → Good ss → Good ss′ → Same (verticesIn ss) (verticesIn ss′) → topsOf ss ≡ topsOf ss′
 tops-same ss ss′ g g′ h =
     rising-only smallest (topsOf ss) (topsOf ss′) (map-rising smallest (topsOf ss) (g .ordered .rises))
     (map-rising smallest (topsOf ss′) (g′ .ordered .rises)) (tops-part ss ss′ g h)
-    (tops-part ss′ ss g′ (flip (clustersIn ss) (clustersIn ss′) h))
+    (tops-part ss′ ss g′ (flip (verticesIn ss) (verticesIn ss′) h))
 
 -- ---- a first child and the others
 
@@ -102,19 +102,19 @@ clash a c k cs h n i m j =
     n (zero-of-apart c (apart-of-inside a k c c x i j))
 
 module _ (s s′ : Shape) (ss ss′ : Shapes) (a : T (allApart (topsOf (more s ss)))) (e : topsOf (more s ss) ≡ topsOf (more s′ ss′)) where
-  first-part : T (isOrdered s) → (c : ℕ) → Mem c (clustersOf s) → Mem c (clustersIn (more s′ ss′)) → Mem c (clustersOf s′)
-  first-part o c m k = ⊎-elim (λ j. j) (λ j. absurd (out j)) (List·Memᴰ·append-cases (clustersOf s′) k)
+  first-part : T (isOrdered s) → (c : ℕ) → Mem c (verticesOf s) → Mem c (verticesIn (more s′ ss′)) → Mem c (verticesOf s′)
+  first-part o c m k = ⊎-elim (λ j. j) (λ j. absurd (out j)) (List·Memᴰ·append-cases (verticesOf s′) k)
     where
-      out : Mem c (clustersIn ss′) → ⊥
+      out : Mem c (verticesIn ss′) → ⊥
       out j =
           let q = clusters-inside ss′ c j in
           clash (topOf s) c (q .0) (topsOf ss) a (cluster-nonzero s o c m) (cluster-inside s c m)
           (subst (Mem (q .0)) (sym (tail-eq-of-cons-eq e)) (q .1)) (q .2)
 
-  rest-part : T (areOrdered ss) → (c : ℕ) → Mem c (clustersIn ss) → Mem c (clustersIn (more s′ ss′)) → Mem c (clustersIn ss′)
-  rest-part o c m k = ⊎-elim (λ j. absurd (out j)) (λ j. j) (List·Memᴰ·append-cases (clustersOf s′) k)
+  rest-part : T (areOrdered ss) → (c : ℕ) → Mem c (verticesIn ss) → Mem c (verticesIn (more s′ ss′)) → Mem c (verticesIn ss′)
+  rest-part o c m k = ⊎-elim (λ j. absurd (out j)) (λ j. j) (List·Memᴰ·append-cases (verticesOf s′) k)
     where
-      out : Mem c (clustersOf s′) → ⊥
+      out : Mem c (verticesOf s′) → ⊥
       out j =
           let q = clusters-inside ss c m in
           clash (topOf s) c (q .0) (topsOf ss) a (clusters-nonzero ss o c m)
@@ -122,47 +122,47 @@ module _ (s s′ : Shape) (ss ss′ : Shapes) (a : T (allApart (topsOf (more s s
 
 -- the same of both, each way
 module _ (s s′ : Shape) (ss ss′ : Shapes) (a : T (allApart (topsOf (more s ss)))) (e : topsOf (more s ss) ≡ topsOf (more s′ ss′))
-    (h : Same (clustersIn (more s ss)) (clustersIn (more s′ ss′))) where
+    (h : Same (verticesIn (more s ss)) (verticesIn (more s′ ss′))) where
   a′ : T (allApart (topsOf (more s′ ss′)))
   a′ = subst (λ (l : List ℕ). T (allApart l)) e a
 
-  first-same : T (isOrdered s) → T (isOrdered s′) → Same (clustersOf s) (clustersOf s′)
+  first-same : T (isOrdered s) → T (isOrdered s′) → Same (verticesOf s) (verticesOf s′)
   first-same o o′ = record {
-    to = λ c m. first-part s s′ ss ss′ a e o c m (h .to c (Memᴰ·append-left (clustersIn ss) m));
-    from = λ c m. first-part s′ s ss′ ss a′ (sym e) o′ c m (h .from c (Memᴰ·append-left (clustersIn ss′) m));
+    to = λ c m. first-part s s′ ss ss′ a e o c m (h .to c (Memᴰ·append-left (verticesIn ss) m));
+    from = λ c m. first-part s′ s ss′ ss a′ (sym e) o′ c m (h .from c (Memᴰ·append-left (verticesIn ss′) m));
   }
 
-  rest-same : T (areOrdered ss) → T (areOrdered ss′) → Same (clustersIn ss) (clustersIn ss′)
+  rest-same : T (areOrdered ss) → T (areOrdered ss′) → Same (verticesIn ss) (verticesIn ss′)
   rest-same o o′ = record {
-    to = λ c m. rest-part s s′ ss ss′ a e o c m (h .to c (Memᴰ·append-right (clustersOf s) m));
-    from = λ c m. rest-part s′ s ss′ ss a′ (sym e) o′ c m (h .from c (Memᴰ·append-right (clustersOf s′) m));
+    to = λ c m. rest-part s s′ ss ss′ a e o c m (h .to c (Memᴰ·append-right (verticesOf s) m));
+    from = λ c m. rest-part s′ s ss′ ss a′ (sym e) o′ c m (h .from c (Memᴰ·append-right (verticesOf s′) m));
   }
 
 -- ---- shapes
 
 -- a vertex has a child's cluster beside its own, a taxon has one cluster
-taxon-vertex : (t : ℕ) (ss : Shapes) → Good ss → ((c : ℕ) → Mem c (clustersOf (vertex ss)) → Mem c (clustersOf (taxon t))) → ⊥
+taxon-vertex : (t : ℕ) (ss : Shapes) → Good ss → ((c : ℕ) → Mem c (verticesOf (vertex ss)) → Mem c (verticesOf (taxon t))) → ⊥
 taxon-vertex t ss g f =
     let k = first-top ss (g .ordered .two) in
     let e = List·Memᴰ·eq-of-singleton (f (k .0) (there (tops-clusters ss (k .0) (k .1)))) in
     top-other ss g (k .0) (k .1) (e ∙ sym (List·Memᴰ·eq-of-singleton (f (unionOf (topsOf ss)) (here refl))))
 
 mutual
-  only : (s s′ : Shape) → T (isOrdered s) → T (isOrdered s′) → T (isApart s) → T (isApart s′) → Same (clustersOf s) (clustersOf s′) → s ≡ s′
+  only : (s s′ : Shape) → T (isOrdered s) → T (isOrdered s′) → T (isApart s) → T (isApart s′) → Same (verticesOf s) (verticesOf s′) → s ≡ s′
   only (taxon t) (taxon u) o o′ a a′ h = ap taxon (pow-inj t u (List·Memᴰ·eq-of-singleton (h .to (2 ^ t) (here refl))))
   only (taxon t) (vertex ss) o o′ a a′ h = absurd (taxon-vertex t ss (good→ ss o′ a′) (h .from))
   only (vertex ss) (taxon t) o o′ a a′ h = absurd (taxon-vertex t ss (good→ ss o a) (h .to))
   only (vertex ss) (vertex ss′) o o′ a a′ h =
       let g = good→ ss o a in
       let g′ = good→ ss′ o′ a′ in
-      let b : Same (clustersIn ss) (clustersIn ss′) = record {
+      let b : Same (verticesIn ss) (verticesIn ss′) = record {
         to = beneath-part ss ss′ g h;
-        from = beneath-part ss′ ss g′ (flip (clustersOf (vertex ss)) (clustersOf (vertex ss′)) h);
+        from = beneath-part ss′ ss g′ (flip (verticesOf (vertex ss)) (verticesOf (vertex ss′)) h);
       } in
       ap vertex (only-each ss ss′ (g .ordered .each) (g′ .ordered .each) (g .below) (g′ .below) (g .apart) (tops-same ss ss′ g g′ b) b)
 
   only-each : (ss ss′ : Shapes) → T (areOrdered ss) → T (areOrdered ss′) → T (areApart ss) → T (areApart ss′)
-      → T (allApart (topsOf ss)) → topsOf ss ≡ topsOf ss′ → Same (clustersIn ss) (clustersIn ss′) → ss ≡ ss′
+      → T (allApart (topsOf ss)) → topsOf ss ≡ topsOf ss′ → Same (verticesIn ss) (verticesIn ss′) → ss ≡ ss′
   only-each none none o o′ a a′ p e h = refl
   only-each none (more s′ ss′) o o′ a a′ p e h = absurd (let z : 0 ≡ suc (length (topsOf ss′)) = ap length e in omega arith)
   only-each (more s ss) none o o′ a a′ p e h = absurd (let z : suc (length (topsOf ss)) ≡ 0 = ap length e in omega arith)
@@ -175,6 +175,6 @@ mutual
       (only-each ss ss′ (q .1) (q′ .1) (r .1) (r′ .1) (apart-rest (topOf s) (topsOf ss) p) (tail-eq-of-cons-eq e)
       (rest-same s s′ ss ss′ p e h (q .1) (q′ .1)))
 
-pub ordered-only : (s s′ : Shape) → T (isOrdered s) → T (isOrdered s′) → Once (clustersOf s) → Once (clustersOf s′)
-    → Same (clustersOf s) (clustersOf s′) → s ≡ s′
+pub ordered-only : (s s′ : Shape) → T (isOrdered s) → T (isOrdered s′) → Once (verticesOf s) → Once (verticesOf s′)
+    → Same (verticesOf s) (verticesOf s′) → s ≡ s′
 ordered-only s s′ o o′ p p′ h = only s s′ o o′ (apart-of-once s p) (apart-of-once s′ p′) h

@@ -19,6 +19,8 @@ use Rattle.laws.specs.Cluster.{inside, apart, single, unionOf}
 use Rattle.laws.specs.Lists.{keep, Once}
 use Rattle.laws.proofs.Keep.{mem-keep, mem-of-keep, keep-none, keep-all}
 use Rattle.laws.proofs.Once.{once-keep}
+use Rattle.laws.proofs.Falling.{in-turn-keep}
+use Rattle.laws.proofs.Sort.{mem-sort, mem-of-sort}
 use Rattle.laws.proofs.Cluster.{inside-refl, inside-trans, le-of-inside, zero-of-inside, has-of-inside, apart→}
 use Rattle.laws.proofs.Cluster.{apart-of-inside, strict→, rest-apart, rest-inside, inside-rest}
 use Rattle.laws.proofs.Lowest.{lowest-in, lowest-le, lowest-lt, lowest-mono, lowest-apart}
@@ -26,7 +28,7 @@ use Rattle.trees.specs.Tree.{children}
 use Rattle.shapes.specs.Shape.{smallest}
 use Rattle.shapes.specs.Drawn.{childrenInOrder}
 use Rattle.shapes.specs.Parts.{childWith}
-use Rattle.shapes.proofs.Sorted.{Rising, rising-once, rising-only, rising-keep, mem-sort, mem-of-sort, sort-rising}
+use Rattle.shapes.proofs.Sorted.{RisingBy, rising-once, rising-only, sort-rising}
 use Rattle.shapes.proofs.Nests.{Nests, Child, child→, →child, childWith-child, children-apart}
 use Rattle.shapes.proofs.Nests.{taxon-strict, children-union, children-two}
 
@@ -37,10 +39,10 @@ module _ (xs : List ℕ) (N : Nests xs) (C : ℕ) where
   order = childrenInOrder xs C
 
   pub in-order→ : (c : ℕ) → Mem c order → Child xs C c
-  in-order→ c m = child→ xs C c (mem-of-sort smallest (children xs C) m)
+  in-order→ c m = child→ xs C c (mem-of-sort _ (children xs C) m)
 
   pub →in-order : (c : ℕ) → Child xs C c → Mem c order
-  →in-order c k = mem-sort smallest (children xs C) (→child xs C c k)
+  →in-order c k = mem-sort _ (children xs C) (→child xs C c k)
 
   small : (c : ℕ) → Child xs C c → c < 2 ^ 64
   small c k = N .small c (k .member)
@@ -55,7 +57,7 @@ module _ (xs : List ℕ) (N : Nests xs) (C : ℕ) where
       go (yes h) = h
       go (no n) = absurd (lowest-apart 64 a b (small a p) (nonzero a p) (small b q) (nonzero b q) (children-apart xs N C a b p q n) e)
 
-  pub order-rising : Rising smallest order
+  pub order-rising : RisingBy smallest order
   order-rising =
       sort-rising smallest (children xs C) (once-keep _ xs (N .once)) (λ a b m k. smallest-inj a b (child→ xs C a m) (child→ xs C b k))
 
@@ -138,8 +140,8 @@ module _ (xs : List ℕ) (N : Nests xs) (C : ℕ) where
       later : (c : ℕ) → Mem c (partsIn (left - next)) → Child xs C c × T (inside c (left - next))
       later c k = let q = mem-of-keep (λ (x : ℕ). inside x (left - next)) order k in (in-order→ c (q .0), q .1)
 
-      first-rising : Rising smallest (next ∷ partsIn (left - next))
-      first-rising = (above, rising-keep smallest (λ (c : ℕ). inside c (left - next)) order order-rising)
+      first-rising : RisingBy smallest (next ∷ partsIn (left - next))
+      first-rising = (above, in-turn-keep _ (λ (c : ℕ). inside c (left - next)) order order-rising)
         where
           above : (c : ℕ) → Mem c (partsIn (left - next)) → smallest next < smallest c
           above c k =
@@ -152,7 +154,7 @@ module _ (xs : List ℕ) (N : Nests xs) (C : ℕ) where
       pub parts-more : partsIn left ≡ next ∷ partsIn (left - next)
       parts-more =
           rising-only smallest (partsIn left) (next ∷ partsIn (left - next))
-          (rising-keep smallest (λ (c : ℕ). inside c left) order order-rising) first-rising to from
+          (in-turn-keep _ (λ (c : ℕ). inside c left) order order-rising) first-rising to from
         where
           to : (c : ℕ) → Mem c (partsIn left) → Mem c (next ∷ partsIn (left - next))
           to c k = go (ℕ-discrete c next)

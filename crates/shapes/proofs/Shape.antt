@@ -24,19 +24,19 @@ use Rattle.laws.proofs.Cluster.{inside-refl, inside-trans, has-of-inside, insid
 use Rattle.laws.proofs.Cluster.{→apart, taxon-of-union, taxon-nonzero}
 use Rattle.laws.proofs.Split.{Parted, once-of-append}
 use Rattle.trees.specs.Tuple.{allApart}
-use Rattle.shapes.specs.Shape.{Shape, taxon, vertex, Shapes, none, more, topOf, topsOf, clustersOf, clustersIn}
+use Rattle.shapes.specs.Shape.{Shape, taxon, vertex, Shapes, none, more, topOf, topsOf, verticesOf, verticesIn}
 use Rattle.shapes.specs.Shape.{smallest, ascends, isOrdered, areOrdered}
 
 -- ---- tops are clusters
 
-pub top-cluster : (s : Shape) → Mem (topOf s) (clustersOf s)
+pub top-cluster : (s : Shape) → Mem (topOf s) (verticesOf s)
 top-cluster (taxon t) = here refl
 top-cluster (vertex ss) = here refl
 
-pub tops-clusters : (ss : Shapes) (k : ℕ) → Mem k (topsOf ss) → Mem k (clustersIn ss)
+pub tops-clusters : (ss : Shapes) (k : ℕ) → Mem k (topsOf ss) → Mem k (verticesIn ss)
 tops-clusters none k m = m
-tops-clusters (more s ss) k (here e) = Memᴰ·cast e (Memᴰ·append-left (clustersIn ss) (top-cluster s))
-tops-clusters (more s ss) k (there m) = Memᴰ·append-right (clustersOf s) (tops-clusters ss k m)
+tops-clusters (more s ss) k (here e) = Memᴰ·cast e (Memᴰ·append-left (verticesIn ss) (top-cluster s))
+tops-clusters (more s ss) k (there m) = Memᴰ·append-right (verticesOf s) (tops-clusters ss k m)
 
 -- ---- clusters lie inside tops
 
@@ -50,17 +50,17 @@ within-more : (s : Shape) (ss : Shapes) (c : ℕ) → Within ss c → Within (mo
 within-more s ss c q = (q .0, there (q .1), q .2)
 
 mutual
-  pub cluster-inside : (s : Shape) (c : ℕ) → Mem c (clustersOf s) → T (inside c (topOf s))
+  pub cluster-inside : (s : Shape) (c : ℕ) → Mem c (verticesOf s) → T (inside c (topOf s))
   cluster-inside (taxon t) c (here e) = subst (λ (x : ℕ). T (inside c x)) e (inside-refl c)
   cluster-inside (taxon t) c (there m) = absurd (mem-nil m)
   cluster-inside (vertex ss) c (here e) = subst (λ (x : ℕ). T (inside c x)) e (inside-refl c)
   cluster-inside (vertex ss) c (there m) = within-union ss c (clusters-inside ss c m)
 
-  pub clusters-inside : (ss : Shapes) (c : ℕ) → Mem c (clustersIn ss) → (k : ℕ) × Mem k (topsOf ss) × T (inside c k)
+  pub clusters-inside : (ss : Shapes) (c : ℕ) → Mem c (verticesIn ss) → (k : ℕ) × Mem k (topsOf ss) × T (inside c k)
   clusters-inside none c m = absurd (mem-nil m)
   clusters-inside (more s ss) c m =
       ⊎-elim (λ k. (topOf s, here refl, cluster-inside s c k)) (λ k. within-more s ss c (clusters-inside ss c k))
-      (List·Memᴰ·append-cases (clustersOf s) m)
+      (List·Memᴰ·append-cases (verticesOf s) m)
 
 -- ---- an ordered vertex
 
@@ -100,28 +100,28 @@ mutual
   tops-nonzero (more s ss) h k (there m) z = tops-nonzero ss (T-and (isOrdered s) (areOrdered ss) h .1) k m z
 
 mutual
-  pub cluster-nonzero : (s : Shape) → T (isOrdered s) → (c : ℕ) → Mem c (clustersOf s) → c ≢ 0
+  pub cluster-nonzero : (s : Shape) → T (isOrdered s) → (c : ℕ) → Mem c (verticesOf s) → c ≢ 0
   cluster-nonzero (taxon t) h c m e = taxon-nonzero t (sym (List·Memᴰ·eq-of-singleton m) ∙ e)
   cluster-nonzero (vertex ss) h c (here e) z = top-nonzero (vertex ss) h (sym e ∙ z)
   cluster-nonzero (vertex ss) h c (there m) z = clusters-nonzero ss (ordered→ ss h .each) c m z
 
-  pub clusters-nonzero : (ss : Shapes) → T (areOrdered ss) → (c : ℕ) → Mem c (clustersIn ss) → c ≢ 0
+  pub clusters-nonzero : (ss : Shapes) → T (areOrdered ss) → (c : ℕ) → Mem c (verticesIn ss) → c ≢ 0
   clusters-nonzero none h c m z = mem-nil m
   clusters-nonzero (more s ss) h c m z =
       let q = T-and (isOrdered s) (areOrdered ss) h in
-      ⊎-elim (λ k. cluster-nonzero s (q .0) c k z) (λ k. clusters-nonzero ss (q .1) c k z) (List·Memᴰ·append-cases (clustersOf s) m)
+      ⊎-elim (λ k. cluster-nonzero s (q .0) c k z) (λ k. clusters-nonzero ss (q .1) c k z) (List·Memᴰ·append-cases (verticesOf s) m)
 
 -- ---- the taxa of a shape are clusters of it
 
 mutual
-  taxon-cluster : (s : Shape) (t : ℕ) → T (inside (2 ^ t) (topOf s)) → Mem (2 ^ t) (clustersOf s)
+  taxon-cluster : (s : Shape) (t : ℕ) → T (inside (2 ^ t) (topOf s)) → Mem (2 ^ t) (verticesOf s)
   taxon-cluster (taxon u) t i = here (ap (λ (x : ℕ). 2 ^ x) (pow-has u t (has-of-inside t (2 ^ u) i)))
   taxon-cluster (vertex ss) t i = there (taxa-clusters ss t i)
 
-  taxa-clusters : (ss : Shapes) (t : ℕ) → T (inside (2 ^ t) (unionOf (topsOf ss))) → Mem (2 ^ t) (clustersIn ss)
+  taxa-clusters : (ss : Shapes) (t : ℕ) → T (inside (2 ^ t) (unionOf (topsOf ss))) → Mem (2 ^ t) (verticesIn ss)
   taxa-clusters none t i = absurd (taxon-nonzero t (zero-of-inside (2 ^ t) i))
   taxa-clusters (more s ss) t i =
-      ⊎-elim (λ k. Memᴰ·append-left (clustersIn ss) (taxon-cluster s t k)) (λ k. Memᴰ·append-right (clustersOf s) (taxa-clusters ss t k))
+      ⊎-elim (λ k. Memᴰ·append-left (verticesIn ss) (taxon-cluster s t k)) (λ k. Memᴰ·append-right (verticesOf s) (taxa-clusters ss t k))
       (taxon-of-union t (topOf s) (unionOf (topsOf ss)) i)
 
 -- ---- children that are apart
@@ -135,24 +135,24 @@ abbrev mutual
   areApart none = true
   areApart (more s ss) = isApart s && areApart ss
 
-tops-apart : (ss : Shapes) → Once (clustersIn ss) → T (allApart (topsOf ss))
+tops-apart : (ss : Shapes) → Once (verticesIn ss) → T (allApart (topsOf ss))
 tops-apart none o = tt
 tops-apart (more s ss) o =
-    let p = once-of-append (clustersOf s) (clustersIn ss) o in
+    let p = once-of-append (verticesOf s) (verticesIn ss) o in
     and-T (every (apart (topOf s)) (topsOf ss)) (allApart (topsOf ss)) (→every (apart (topOf s)) (topsOf ss) (away p))
     (tops-apart ss (p .right))
   where
-    away : Parted (clustersOf s) (clustersIn ss) → (k : ℕ) → Mem k (topsOf ss) → T (apart (topOf s) k)
+    away : Parted (verticesOf s) (verticesIn ss) → (k : ℕ) → Mem k (topsOf ss) → T (apart (topOf s) k)
     away p k m = →apart (topOf s) k (λ t x y. p .none (2 ^ t) (taxon-cluster s t (inside-of-has t (topOf s) x))
         (taxa-clusters ss t (within-union ss (2 ^ t) (k, m, inside-of-has t k y))))
 
 mutual
-  pub apart-of-once : (s : Shape) → Once (clustersOf s) → T (isApart s)
+  pub apart-of-once : (s : Shape) → Once (verticesOf s) → T (isApart s)
   apart-of-once (taxon t) o = tt
   apart-of-once (vertex ss) o = and-T (allApart (topsOf ss)) (areApart ss) (tops-apart ss (o .1)) (all-apart ss (o .1))
 
-  all-apart : (ss : Shapes) → Once (clustersIn ss) → T (areApart ss)
+  all-apart : (ss : Shapes) → Once (verticesIn ss) → T (areApart ss)
   all-apart none o = tt
   all-apart (more s ss) o =
-      let p = once-of-append (clustersOf s) (clustersIn ss) o in
+      let p = once-of-append (verticesOf s) (verticesIn ss) o in
       and-T (isApart s) (areApart ss) (apart-of-once s (p .left)) (all-apart ss (p .right))

@@ -2,14 +2,14 @@
 --     costIn w c         the taxa of c in the width, each for its figures and three
 --     fullCost w         all taxa of the width
 --     print-length-le    a printed shape is three bytes shorter than that at least
---     text-length-le     so is a text, by two
---     full-narrow, full-wide     in numbers, for 32 and for 64 taxa
+--     full-le            ten taxa of one figure, the others of two
+--     text-length-le     a text has five bytes for each taxon of the width at most, less twelve
 -- Assumes nothing.
-use mathlib.Core.Path.{_≡_, refl}
+use mathlib.Core.Path.{_≡_, ap}
 use mathlib.Core.Bool.{Bool, true, false, cond}
 use mathlib.Core.List.{[], _∷_}
 use Prim.Native.Nat.{ℕ, zero, suc, _+_, _*_, _^_, _≤_, _<_}
-use native.Mathlib.Decide.{ℕ-discrete}
+use native.Mathlib.Decide.{decLe, ℕ-discrete}
 use native.Mathlib.Nat.{le-refl}
 use native.Mathlib.Omega.{arith}
 use lib.Bits.{bitOr}
@@ -23,8 +23,9 @@ use Rattle.laws.proofs.Cluster.{inside-refl, inside-trans, le-of-inside, inside
 use Rattle.laws.proofs.Cluster.{apart→, apart-unionOf}
 use Rattle.trees.specs.Tuple.{allApart}
 use Rattle.shapes.specs.Decimal.{figures, decimal}
-use Rattle.shapes.specs.Shape.{Shape, taxon, vertex, Shapes, none, more, topOf, topsOf, clustersOf, isOrdered, areOrdered}
+use Rattle.shapes.specs.Shape.{Shape, taxon, vertex, Shapes, none, more, topOf, topsOf, verticesOf, isOrdered, areOrdered}
 use Rattle.shapes.specs.Text.{semicolon, afterCommas, print, printEach, textBytes}
+use Rattle.shapes.proofs.Decimal.{decimal-two}
 use Rattle.shapes.proofs.Shape.{ordered→, isApart, areApart, apart-of-once}
 
 abbrev cost : ℕ → ℕ
@@ -34,7 +35,7 @@ abbrev costIn : ℕ → ℕ → ℕ
 costIn zero c = 0
 costIn (suc w) c = cond (inside (2 ^ w) c) (cost w) 0 + costIn w c
 
-unfoldable pub fullCost : ℕ → ℕ
+unfoldable fullCost : ℕ → ℕ
 fullCost zero = 0
 fullCost (suc w) = 3 + length (decimal w) + fullCost w
 
@@ -111,14 +112,18 @@ module _ (w : ℕ) where
 
 -- ---- texts
 
-pub text-length-le : (w : ℕ) (s : Shape) → T (isOrdered s) → Once (clustersOf s) → topOf s < 2 ^ w → length (textBytes s) + 2 ≤ fullCost w
-text-length-le w s o p h =
-    omega (arith, print-length-le w s o (apart-of-once s p) h, cost-le w (topOf s), length-append (print s) (semicolon ∷ []))
-
-pub full-narrow : fullCost 32 ≡ 150
+-- a taxon below ten has one figure, any other at most two
+full-le : (w : ℕ) → 10 ≤ w → w ≤ 64 → fullCost w + 10 ≤ 5 * w
 unfolding fullCost figures
-full-narrow = refl
+full-le zero h k = absurd (omega arith)
+full-le (suc w) h k = go (decLe w 9) (full-le w)
+  where
+    go : Dec (w ≤ 9) → (10 ≤ w → w ≤ 64 → fullCost w + 10 ≤ 5 * w) → fullCost (suc w) + 10 ≤ 5 * suc w
+    go (yes l) ih = let e : w ≡ 9 = omega arith in rw e (le-refl 50)
+    go (no l) ih = omega (arith, ih (omega arith) (omega arith), ap length (decimal-two w (omega arith) (omega arith)))
 
-pub full-wide : fullCost 64 ≡ 310
-unfolding fullCost figures
-full-wide = refl
+pub text-length-le : (w : ℕ) (s : Shape) → 10 ≤ w → w ≤ 64 → T (isOrdered s) → Once (verticesOf s) → topOf s < 2 ^ w
+    → length (textBytes s) + 12 ≤ 5 * w
+text-length-le w s l k o p h =
+    let one = length-append (print s) (semicolon ∷ []) in
+    omega (arith, print-length-le w s o (apart-of-once s p) h, cost-le w (topOf s), full-le w l k)

@@ -5,8 +5,7 @@
 --     shape-only                it is the only ordered shape that has them
 --     text-members, text-top    equal texts have the same members, and the same top
 --     text-tree                 of trees of one list, equal texts are one tree
---     text-length               a text has at most so many bytes
---     text-length-narrow, text-length-wide     148 bytes for 32 taxa, 308 for 64
+--     text-length               a text has at most so many bytes as the width allows: 148 for 32 taxa
 --     list-length-le            the list of clusters has at most two for each taxon, less one: 63 for 32 taxa
 -- That equal texts are of equal shapes is `print-inj` (`Print.antt`); how a writer meets the children of a part stands in `Parts.antt`.
 -- Assumes nothing.
@@ -17,30 +16,30 @@ use Prim.Native.Nat.{ℕ, _+_, _*_, _^_, _≤_, _<_}
 use native.Mathlib.Nat.{le-refl, le-trans}
 use native.Mathlib.Omega.{arith}
 use lib.Count.{ones-le}
-use lib.Dec.{T}
+use lib.Dec.{T, ltb}
 use lib.ListN.{length}
 use lib.Pow.{pow-mono}
 use Rattle.laws.specs.Cluster.{inside, size}
-use Rattle.laws.specs.Limits.{narrow}
+use Rattle.laws.specs.Limits.{Width, WidthFacts}
 use Rattle.laws.specs.Lists.{keep, Once}
 use Rattle.laws.proofs.Keep.{mem-keep, mem-of-keep, elem→, →elem}
 use Rattle.laws.proofs.Once.{once-keep}
 use Rattle.laws.proofs.Digits.{has-lt}
 use Rattle.laws.proofs.Falling.{sublist-is-elem}
+use Rattle.laws.proofs.Sort.{length-sort}
 use Rattle.laws.proofs.Cluster.{inside-trans, has-of-inside}
 use Rattle.trees.specs.Tree.{treesOn}
 use Rattle.trees.proofs.Sets.Families.{Fam, fam-ext}
 use Rattle.trees.proofs.Sets.TreeFacts.{Given, Tree}
 use Rattle.trees.proofs.Bounds.TreeSize.{treesOn-length-le}
 use Rattle.trees.proofs.Joined.TreeTest.{famOf, tree-of}
-use Rattle.shapes.specs.Shape.{Shape, topOf, clustersOf, isOrdered}
+use Rattle.shapes.specs.Shape.{Shape, topOf, verticesOf, isOrdered}
 use Rattle.shapes.specs.Drawn.{ascending, shapeOf, textOf}
-use Rattle.shapes.proofs.Sorted.{length-sort}
 use Rattle.shapes.proofs.Print.{print-inj}
 use Rattle.shapes.proofs.Nests.{Nests}
 use Rattle.shapes.proofs.Drawn.{Draws, shape-draws}
 use Rattle.shapes.proofs.Only.{Same, ordered-only}
-use Rattle.shapes.proofs.TextLength.{fullCost, text-length-le, full-narrow, full-wide}
+use Rattle.shapes.proofs.TextLength.{text-length-le}
 
 pub record TreeOn (xs : List ℕ) (C : ℕ) : Type 0 where
   pub nests : Nests xs
@@ -95,13 +94,13 @@ module _ (xs : List ℕ) (C : ℕ) (tree : TreeOn xs C) where
   pub shape-ordered : T (isOrdered shape)
   shape-ordered = drawn .ordered
 
-  pub shape-clusters : Same (clustersOf shape) xs
+  pub shape-clusters : Same (verticesOf shape) xs
   shape-clusters = record { to = λ c m. drawn .sound c m .0; from = λ c m. drawn .complete c m (tree .within c m) }
 
-  pub shape-once : Once (clustersOf shape)
+  pub shape-once : Once (verticesOf shape)
   shape-once = drawn .once
 
-  pub shape-only : (s : Shape) → T (isOrdered s) → Once (clustersOf s) → Same (clustersOf s) xs → s ≡ shape
+  pub shape-only : (s : Shape) → T (isOrdered s) → Once (verticesOf s) → Same (verticesOf s) xs → s ≡ shape
   shape-only s o p h =
       ordered-only s shape o shape-ordered p shape-once (record {
         to = λ c m. shape-clusters .from c (h .to c m);
@@ -109,14 +108,10 @@ module _ (xs : List ℕ) (C : ℕ) (tree : TreeOn xs C) where
       })
 
   -- ---- the length of its text
-  pub text-length : (w : ℕ) → C < 2 ^ w → length (textOf xs C) + 2 ≤ fullCost w
-  text-length w h = text-length-le w shape shape-ordered shape-once (subst (λ (c : ℕ). c < 2 ^ w) (sym shape-top) h)
-
-  pub text-length-narrow : C < 2 ^ narrow .taxa → length (textOf xs C) ≤ narrow .textBytes
-  text-length-narrow h = omega (arith, text-length 32 h, full-narrow)
-
-  pub text-length-wide : length (textOf xs C) ≤ 308
-  text-length-wide = omega (arith, text-length 64 (tree .nests .small C (tree .top)), full-wide)
+  pub text-length : (W : Width) → WidthFacts W → C < 2 ^ W .taxa → length (textOf xs C) ≤ W .textBytes
+  text-length W facts h =
+      let below = subst (λ (c : ℕ). c < 2 ^ W .taxa) (sym shape-top) h in
+      omega (arith, text-length-le (W .taxa) shape (facts .ten) (facts .taxa) shape-ordered shape-once below, facts .text)
 
 -- ---- texts tell trees
 
@@ -126,7 +121,7 @@ module _ (xs ys : List ℕ) (C D : ℕ) (t : TreeOn xs C) (u : TreeOn ys D) (e :
 
   pub text-members : Same xs ys
   text-members =
-      let m = subst (λ (s : Shape). Same (clustersOf s) ys) (sym shapes-equal) (shape-clusters ys D u) in
+      let m = subst (λ (s : Shape). Same (verticesOf s) ys) (sym shapes-equal) (shape-clusters ys D u) in
       let k = shape-clusters xs C t in
       record { to = λ c h. m .to c (k .from c h); from = λ c h. k .to c (m .from c h) }
 
@@ -154,4 +149,4 @@ module _ (G : Given) where
       let h = tree-of G C xs m .1 in
       let k = ones-le (G .width) C (G .sound C (h .listed C (h .top)) .1) in
       let l = treesOn-length-le G C xs m in
-      omega (arith, length-sort (λ (c : ℕ). c) xs)
+      omega (arith, length-sort ltb xs)

@@ -1,6 +1,5 @@
 -- How a set of clusters is drawn (document 01, "Drawing it": "The cluster list goes out ascending"; "children in order of their smallest
 -- taxon"). Laws: `proofs/Sorted.antt`, `proofs/Drawn.antt`, `proofs/Parts.antt`.
---     insertBy, sortBy       into a list in ascending order of a key; the clusters in that order
 --     ascending xs           a set of clusters in ascending order of number
 --     childrenInOrder xs C   the children of C in order of their smallest taxon
 --     shapesBy f cs          the shapes f c of some clusters
@@ -12,23 +11,16 @@ use mathlib.Core.List.{List, [], _∷_}
 use Prim.Native.Nat.{ℕ, zero, suc}
 use lib.Dec.{ltb}
 use Rattle.laws.specs.Cluster.{single, size}
+use Rattle.laws.specs.Lists.{sortBy}
 use Rattle.trees.specs.Tree.{children}
 use Rattle.shapes.specs.Shape.{Shape, taxon, vertex, Shapes, none, more, smallest}
 use Rattle.shapes.specs.Text.{textBytes}
 
-abbrev pub insertBy : (ℕ → ℕ) → ℕ → List ℕ → List ℕ
-insertBy key c [] = c ∷ []
-insertBy key c (x ∷ xs) = cond (ltb (key x) (key c)) (x ∷ insertBy key c xs) (c ∷ x ∷ xs)
-
-abbrev pub sortBy : (ℕ → ℕ) → List ℕ → List ℕ
-sortBy key [] = []
-sortBy key (c ∷ cs) = insertBy key c (sortBy key cs)
-
 abbrev pub ascending : List ℕ → List ℕ
-ascending xs = sortBy (λ (c : ℕ). c) xs
+ascending xs = sortBy ltb xs
 
 abbrev pub childrenInOrder : List ℕ → ℕ → List ℕ
-childrenInOrder xs C = sortBy smallest (children xs C)
+childrenInOrder xs C = sortBy (λ (a b : ℕ). ltb (smallest a) (smallest b)) (children xs C)
 
 abbrev pub shapesBy : (ℕ → Shape) → List ℕ → Shapes
 shapesBy f [] = none

@@ -1,5 +1,6 @@
--- Read in this order: numbers in decimal, shapes, their text, the shape and text of a set of clusters, and how a writer meets the children
--- of a part.
+-- Read in this order: plain characters, numbers in decimal, shapes, their text, the shape and text of a set of clusters, and how a writer
+-- meets the children of a part.
+pub mod Characters
 pub mod Decimal
 pub mod Shape
 pub mod Text

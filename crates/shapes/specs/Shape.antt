@@ -2,7 +2,7 @@
 -- "Drawing it": "children in order of their smallest taxon"). Laws: `proofs/Shape.antt`, `proofs/Only.antt`.
 --     Shape, Shapes      a vertex is a taxon or has vertices for children; that they are two or more is asked by `isOrdered`
 --     topOf s, topsOf ss the cluster of a vertex: of a taxon itself, else the union of its children's; and those of a list
---     clustersOf s, clustersIn ss     the clusters of all its vertices; and those of a list
+--     verticesOf s, verticesIn ss     the clusters of all its vertices; and those of a list
 --     smallest c         the smallest taxon of a cluster
 --     ascends ns         strictly ascending
 --     isOrdered s, areOrdered ss     every vertex that is no taxon has two children or more, in order of their smallest taxon
@@ -35,13 +35,13 @@ abbrev mutual
   topsOf (more s ss) = topOf s ∷ topsOf ss
 
 abbrev mutual
-  pub clustersOf : Shape → List ℕ
-  clustersOf (taxon t) = 2 ^ t ∷ []
-  clustersOf (vertex ss) = unionOf (topsOf ss) ∷ clustersIn ss
+  pub verticesOf : Shape → List ℕ
+  verticesOf (taxon t) = 2 ^ t ∷ []
+  verticesOf (vertex ss) = unionOf (topsOf ss) ∷ verticesIn ss
 
-  pub clustersIn : Shapes → List ℕ
-  clustersIn none = []
-  clustersIn (more s ss) = clustersOf s ++ clustersIn ss
+  pub verticesIn : Shapes → List ℕ
+  verticesIn none = []
+  verticesIn (more s ss) = verticesOf s ++ verticesIn ss
 
 -- ---- the order of children
 -- no cluster has more than 64 taxa

@@ -1,38 +1,46 @@
--- Reading one record: what it gives in each case, and that the outcome fixes what the code gave.
+-- Reading one record: what it gives in each case.
+--     readRecord-is     it ends by its reasons
 --     readRecord-length, readRecord-broken, readRecord-kept     the three cases
---     readingOf-inj     equal readings in the paper's terms are equal readings
 -- Assumes nothing.
-use mathlib.Core.Path.{_≡_, ap, ap₂}
+use mathlib.Core.Path.{_≡_, refl, ap, _∙_}
 use mathlib.Core.Logic.{_≢_}
-use mathlib.Core.Bool.{true, false}
-use mathlib.Core.List.{List}
+use mathlib.Core.Bool.{true, false, not}
+use mathlib.Core.Option.{Option}
+use mathlib.Core.List.{List, [], _∷_}
 use Prim.Native.Nat.{ℕ}
 use borrow.Author.Tests.{eq-eqb, ne-eqb}
 use lib.ListN.{length}
-use Rattle.cluster.specs.declared.reading.Reading.{Reading}
-use Rattle.cluster.specs.declared.record.Record.{Record}
-use Rattle.cluster.specs.declared.refusal.Answer.{Answer}
+use Rattle.laws.specs.Limits.{narrow}
+use Rattle.cluster.specs.declared.refusal.Answer.the-variants.{Done, Refused}
+use Rattle.cluster.specs.declared.refusal.Refusal.{Refusal}
 use Rattle.cluster.specs.declared.refusal.Refusal.the-variants.{WrongLength, BadRecord}
+use Rattle.cluster.specs.Outcome.{outcomeOf, ended}
+use Rattle.cluster.specs.Reasons.{Reason, when, firstReason}
 use Rattle.cluster.specs.Record.{recordBytes, recordOf}
 use Rattle.cluster.specs.Rule.{isKept}
-use Rattle.cluster.specs.Reading.{ruleOf, Read, readingOf, notRead, readAs, readRecord}
-use Rattle.cluster.proofs.Laws.Refusal.{sentOf-inj}
+use Rattle.cluster.specs.Reading.{ruleOf, zeroRecord, readReasons, readRecord}
+use Rattle.cluster.proofs.Laws.Reasons.{reason-told, reason-passed}
 
 module _ (l : List ℕ) where
-  pub readRecord-length : length l ≢ recordBytes → readRecord l ≡ notRead WrongLength
+  pub readRecord-is : readRecord l ≡ ended (firstReason (readReasons l)) zeroRecord 0 (recordOf l)
   unfolding readRecord
-  readRecord-length n = simp (ne-eqb _ _ n)
+  readRecord-is = refl
 
-  pub readRecord-broken : length l ≡ recordBytes → isKept (ruleOf l) ≡ false → readRecord l ≡ notRead (BadRecord 0)
-  unfolding readRecord
-  readRecord-broken h e = simp (eq-eqb _ _ h, e)
+  by : {f : Option Refusal} → firstReason (readReasons l) ≡ f → readRecord l ≡ ended f zeroRecord 0 (recordOf l)
+  by e = readRecord-is ∙ ap (λ (f : Option Refusal). ended f zeroRecord 0 (recordOf l)) e
 
-  pub readRecord-kept : length l ≡ recordBytes → isKept (ruleOf l) ≡ true → readRecord l ≡ readAs (recordOf l)
-  unfolding readRecord
-  readRecord-kept h e = simp (eq-eqb _ _ h, e)
+  abbrev broken : List Reason
+  broken = when (not (isKept (ruleOf narrow l))) (BadRecord 0) ∷ []
 
-pub readingOf-inj : (x y : Reading) → readingOf x ≡ readingOf y → x ≡ y
-readingOf-inj x y e =
-    let answer : x .answer ≡ y .answer = sentOf-inj (x .answer) (y .answer) (ap (λ (o : Read). o .sent) e) in
-    let found : x .«record» ≡ y .«record» = ap (λ (o : Read). o .found) e in
-    ap₂ (λ (a : Answer) (r : Record). record { answer = a; «record» = r }) answer found
+  pub readRecord-length : length l ≢ recordBytes → readRecord l ≡ outcomeOf (Refused WrongLength) zeroRecord
+  readRecord-length n = by (reason-told _ WrongLength broken (ap not (ne-eqb _ _ n)))
+
+  fits : length l ≡ recordBytes → firstReason (readReasons l) ≡ firstReason broken
+  fits h = reason-passed _ WrongLength broken (ap not (eq-eqb _ _ h))
+
+  pub readRecord-broken : length l ≡ recordBytes → isKept (ruleOf narrow l) ≡ false
+      → readRecord l ≡ outcomeOf (Refused (BadRecord 0)) zeroRecord
+  readRecord-broken h e = by (fits h ∙ reason-told _ (BadRecord 0) [] (ap not e))
+
+  pub readRecord-kept : length l ≡ recordBytes → isKept (ruleOf narrow l) ≡ true → readRecord l ≡ outcomeOf (Done 0) (recordOf l)
+  readRecord-kept h e = by (fits h ∙ reason-passed _ (BadRecord 0) [] (ap not e))

@@ -2,17 +2,19 @@
 --     answers n p      a success that tells n, then every refusal in the paper's order, with p where it has a position
 --     sent-table       the paper's number, position and what is told for each: an edit of the definitions is refused here
 --     sentOf-inj       equal things sent, equal answers
+--     number-pos       no refusal has the number 0, which says that there is none
 -- Assumes nothing.
 use mathlib.Core.Path.{_≡_, refl, sym, ap, _∙_}
 use mathlib.Core.List.{List, [], _∷_, map}
 use Prim.Native.Nat.{ℕ}
+use native.Mathlib.Omega.{arith}
 use lib.ListN.{getD}
 use Rattle.cluster.specs.declared.refusal.Answer.{Answer}
 use Rattle.cluster.specs.declared.refusal.Answer.the-variants.{Done, Refused}
 use Rattle.cluster.specs.declared.refusal.Refusal.{Refusal}
 use Rattle.cluster.specs.declared.refusal.Refusal.the-variants.{NoBytes, WrongLength, TooLong, DegreeOut, BadRecord, Repeated}
 use Rattle.cluster.specs.declared.refusal.Refusal.the-variants.{NoTree, Unfit, NoRow, BadScore, NoRoom}
-use Rattle.cluster.specs.Refusal.{Sent, sentOf}
+use Rattle.cluster.specs.Refusal.{numberOf, positionOf, Sent, sentOf}
 
 abbrev refusals : ℕ → List Refusal
 refusals p =
@@ -62,3 +64,9 @@ answerOf-sent (Refused NoRoom) = refl
 pub sentOf-inj : (a b : Answer) → sentOf a ≡ sentOf b → a ≡ b
 sentOf-inj a b e =
     sym (answerOf-sent a) ∙ ap (λ (s : Sent). answerOf (s .number) (s .position) (s .told)) e ∙ answerOf-sent b
+
+pub number-pos : (f : Refusal) → numberOf f ≡ 0 → ⊥
+unfolding answerOf
+number-pos f e =
+    let done : Refused f ≡ Done 0 = sym (answerOf-sent (Refused f)) ∙ ap (λ (m : ℕ). answerOf m (positionOf f) 0) e in
+    let z : _≡_ {A = ℕ} 0 1 = cc in omega arith

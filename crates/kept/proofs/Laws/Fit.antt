@@ -1,5 +1,5 @@
 -- A fit row and a fit table as facts. The results of a row: `Results.antt`.
---     recordIn, rules→, →rules, cluster-pos     what was listed of a row keeps the record rules; its cluster has a taxon
+--     cluster-pos                       a cluster that keeps the record rules has a taxon
 --     FitRow, fit→, →fit, fit-rules     a fit row
 --     right→, →right, right-more, right-stop, right-none     all rows; the same from the last down
 --     FitTable, isFit→, →isFit, unfit   a fit table
@@ -15,44 +15,33 @@ use native.Mathlib.Decide.{decLe}
 use native.Mathlib.Nat.{pos-of-ne-zero}
 use native.Mathlib.Omega.{arith}
 use borrow.Author.Tests.{le-leb, lt-leb}
-use lib.Dec.{T, leb, ltb, leb→le, le→leb, ltb→lt, lt→ltb}
+use lib.Dec.{T, leb, leb→le, le→leb}
 use lib.ListN.{getD}
 use Rattle.laws.specs.Limits.{Width, WidthFacts, degreeLow, degreeHigh, isDegree, rowCap}
 use Rattle.laws.specs.Lists.{Falling}
 use Rattle.laws.specs.Row.{Row}
 use Rattle.laws.proofs.Down.{mem-down, every→down, down→every, down-passed, down-stopped, falling-down, down-falling}
 use Rattle.laws.proofs.Tests.{T-and, and-T, T-false}
-use Rattle.cluster.specs.declared.record.Record.{Record}
-use Rattle.cluster.proofs.Laws.Rule.{Keeps, kept→keeps, keeps→kept}
+use Rattle.cluster.specs.Rule.{Keeps, keepsRules}
+use Rattle.cluster.proofs.Laws.Rule.{rules→, →rules}
 use Rattle.trees.specs.Rows.{Entry}
 use Rattle.trees.specs.Result.{Result}
 use Rattle.kept.specs.declared.table.Table.{Table}
 use Rattle.kept.specs.View.{entryAt, entriesOf, clustersIn, clustersDown}
 use Rattle.kept.specs.Blank.{isEmpty}
 use Rattle.kept.specs.Results.{isRanged, isMatched}
-use Rattle.kept.specs.Fit.{keepsRules, fitEntry, isRising, isRowRight, hasRightRows, isFit}
+use Rattle.kept.specs.Fit.{fitEntry, isRising, isRowRight, hasRightRows, isFit}
 use Rattle.kept.proofs.Laws.Clusters.{clusters-are, Ascends, isRising→, →isRising}
 use Rattle.kept.proofs.Laws.Results.{Ranged, ranged→, →ranged, Matched, matched→, →matched}
 
 -- ---- a row
-abbrev pub recordIn : Row → Record
-recordIn r = record { cluster = r .cluster; weight = r .weight; state = r .state }
-
 module _ (W : Width) (r : Row) where
-  pub rules→ : T (keepsRules W r) → (r .cluster < 2 ^ W .taxa) × Keeps (recordIn r) false
-  rules→ h =
-      let q = T-and (ltb (r .cluster) (2 ^ W .taxa)) _ h in
-      (ltb→lt _ _ (q .0), kept→keeps (recordIn r) false (q .1))
-
-  pub →rules : r .cluster < 2 ^ W .taxa → Keeps (recordIn r) false → T (keepsRules W r)
-  →rules l k = and-T (ltb (r .cluster) (2 ^ W .taxa)) _ (lt→ltb _ _ l) (keeps→kept (recordIn r) false k)
-
   pub cluster-pos : T (keepsRules W r) → 0 < r .cluster
-  cluster-pos h = pos-of-ne-zero (rules→ h .1 .has-taxon)
+  cluster-pos h = pos-of-ne-zero (rules→ W r h .1 .has-taxon)
 
 pub record FitRow (W : Width) (cs : List ℕ) (r : Row) (v : Result) : Type 0 where
   pub width : r .cluster < 2 ^ W .taxa
-  pub rules : Keeps (recordIn r) false
+  pub rules : Keeps (r .cluster) (r .weight) (r .state) false
   pub ranged : Ranged W r v
   pub matched : Matched cs r v
 

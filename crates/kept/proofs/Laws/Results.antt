@@ -2,12 +2,11 @@
 --     Ranged, ranged→, →ranged        the ranges of a row's results
 --     Matched, matched→, →matched     what the count says of marks and best weight
 --     matchedTests, matched-is        a count that isn't zero, as the code tests it
---     scored-yes, scored-no           the state of a row, as the code tests it
 --     most-is, minus-fits             the bound of a best weight, as the code has it
 -- Assumes nothing.
 use mathlib.Core.Path.{_≡_, sym, ap, _∙_}
 use mathlib.Core.Logic.{_⊎_, ⊎-elim, ⊎-map, _≢_}
-use mathlib.Core.Bool.{Bool, true, false, _&&_, _||_, and-assoc}
+use mathlib.Core.Bool.{Bool, _&&_, _||_, and-assoc}
 use mathlib.Core.List.{List}
 use Prim.Native.Nat.{ℕ, zero, suc, _-_, _*_, _^_, _≤_, _<_}
 use native.Mathlib.Decide.{ℕ-discrete}
@@ -23,7 +22,6 @@ use mir.Val.{SFits, toZ}
 use Rattle.laws.specs.Cluster.{inside, size, single}
 use Rattle.laws.specs.Limits.{Width, weightMax, wordValues}
 use Rattle.laws.specs.Row.{Row, isScored}
-use Rattle.laws.specs.State.{scored}
 use Rattle.laws.proofs.Down.{down-length}
 use Rattle.laws.proofs.Tests.{T-and, and-T, T-or, or-l, or-r, imp→, →imp, else→, →else, eq→eqb}
 use Rattle.trees.specs.Result.{Result}
@@ -155,15 +153,7 @@ module _ (cs : List ℕ) (n i : ℕ) (r : Fields) (small : r .low < wordValues) 
       rest : Bool
       rest = everyBit (r .low) 64 (isMarkFit cs n (r .cluster) 0) && (everyBit (r .high) 64 (isMarkFit cs n (r .cluster) 64) && lightTest)
 
--- ---- the state and the bound of a best weight, as the code has them
-pub scored-yes : (s : ℕ) → s ≡ 1 → scored s ≡ true
-unfolding scored
-scored-yes s e = eq-eqb s 1 e
-
-pub scored-no : (s : ℕ) → s ≢ 1 → scored s ≡ false
-unfolding scored
-scored-no s e = ne-eqb s 1 e
-
+-- ---- the bound of a best weight, as the code has it
 pub most-is : (n : ℕ) → 1 ≤ n → n ≤ 64 → pos weightMax *ℤ toZ w64 (2 * n - 1) ≡ pos (weightMax * (2 * n - 1))
 most-is n l h = rw (toZ-pos w64 {n = 2 * n - 1} (omega arith)) (pos-*ℤ-pos weightMax (2 * n - 1))
 

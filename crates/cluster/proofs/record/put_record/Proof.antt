@@ -8,9 +8,10 @@ use lib.Seq.{sets}
 use mir.Facts.{toZ-ofZ}
 use mir.Syntax.{w32}
 use mir.Val.{SFits, ofZ}
+use Rattle.laws.specs.Limits.{narrow}
 use Rattle.cluster.specs.declared.record.Record.{Record}
 use Rattle.cluster.specs.Bytes.{byteValues, wordBytes, lowFirst}
-use Rattle.cluster.specs.Record.{recordBytes, weightAt, stateAt, bytesOf}
+use Rattle.cluster.specs.Record.{recordBytes, weightAt, stateAt, rowIn, bytesOf}
 use Rattle.cluster.proofs.Laws.Record.{stored-is}
 use Rattle.cluster.proofs.record.put_record.Statement.{statement}
 use Rattle.cluster.proofs.record.put_record.Tie as tie
@@ -23,8 +24,9 @@ state-lt s = search needs
 
 -- the three stores, over plain lists
 stores : (r : Record) (l : List ℕ) {a b c : List ℕ} {u : ℕ} → recordBytes ≤ length l → r .state < byteValues
-    → a ≡ sets l 0 (lowFirst wordBytes (r .cluster)) → b ≡ sets a weightAt (lowFirst wordBytes u)
-    → c ≡ sets b stateAt (lowFirst wordBytes (r .state)) → u ≡ ofZ w32 (r .weight) → c ≡ bytesOf r ++ drop recordBytes l
+    → a ≡ sets l 0 (lowFirst wordBytes (r .cluster)) → b ≡ sets a (weightAt narrow) (lowFirst wordBytes u)
+    → c ≡ sets b (stateAt narrow) (lowFirst wordBytes (r .state)) → u ≡ ofZ w32 (r .weight)
+    → c ≡ bytesOf narrow (rowIn r) ++ drop recordBytes l
 stores r l h k p q t e = t ∙ rw (q, p, e) (stored-is r l h k)
 
 returns : tie.Need-returns

@@ -9,6 +9,7 @@ use denote.Ref.{now}
 use mir.Facts.{toZ-ofZ}
 use mir.Syntax.{w32}
 use mir.Val.{SFits, toZ}
+use Rattle.laws.specs.Limits.{narrow}
 use Rattle.cluster.specs.declared.record.Record.{Record}
 use Rattle.cluster.specs.Bytes.{wordBytes, numberAt}
 use Rattle.cluster.specs.Record.{weightAt, stateAt, recordOf}
@@ -16,8 +17,8 @@ use Rattle.cluster.proofs.record.record_of.Statement.{statement}
 use Rattle.cluster.proofs.record.record_of.Tie as tie
 
 -- the fields, over plain numbers
-fields : (l : List ℕ) {n u : ℕ} {y z : ℤ} → n ≡ numberAt wordBytes l 0 → u ≡ numberAt wordBytes l weightAt → z ≡ toZ w32 u → y ≡ z
-    → _≡_ {A = Record} (record { cluster = n; weight = y; state = getD l stateAt 0 }) (recordOf l)
+fields : (l : List ℕ) {n u : ℕ} {y z : ℤ} → n ≡ numberAt wordBytes l 0 → u ≡ numberAt wordBytes l (weightAt narrow) → z ≡ toZ w32 u → y ≡ z
+    → _≡_ {A = Record} (record { cluster = n; weight = y; state = getD l (stateAt narrow) 0 }) (recordOf l)
 fields l p q r s = cc
 
 weight-fits : (c : tie.After-signed-of) → SFits w32 (c .signed-of .result)

@@ -17,10 +17,10 @@ returns c = rw (le-ltb _ _ (c .if1 .taken))
 
 returns-2 : tie.Need-returns-2
 returns-2 c =
-    let width = c .before .before .before .before in
+    let width = c .before .before .before in
     let s = width .before .before in
     rw (lt-ltb _ _ (width .if1 .left))
     (c .is-kept .ensures ∙ ap isKept (rw (toZ-ofZ (weight-fits s)) at (c .before .broken-rule .ensures)))
 
 pub is-record-spec : {M : Type 1} → statement M
-is-record-spec = tie.close (tie.spec returns (λ c. search needs) (λ c κs. search needs) (λ c κs. search needs) returns-2)
+is-record-spec = tie.close (tie.spec returns (λ c κs. search needs) (λ c κs. search needs) returns-2)

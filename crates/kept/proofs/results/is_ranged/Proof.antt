@@ -1,8 +1,8 @@
 -- `kept::results::is_ranged` meets its contract: one range after the other. Assumes nothing.
 use borrow.Author.Needs.{needs}
 use borrow.Author.Tests.{le-leb, lt-leb}
+use mathlib.Core.Path.{sym, _∙_}
 use Rattle.laws.proofs.Tests.{passed, failed}
-use Rattle.kept.proofs.Laws.Results.{scored-yes, scored-no}
 use Rattle.kept.proofs.results.is_ranged.Statement.{statement}
 use Rattle.kept.proofs.results.is_ranged.Tie as tie
 
@@ -33,7 +33,7 @@ returns-4 c =
       passed (past-length .before .is-length .ensures) (past-length .if1 .left),
       le-leb _ _ (past-count .if2 .left),
       passed (past-mark .before .is-mark .ensures) (past-mark .if3 .left),
-      scored-yes _ (c .if4 .taken),
+      sym (c .before .is-scored .ensures) ∙ c .if4 .taken,
     )
 
 returns-5 : tie.Need-returns-5
@@ -45,10 +45,19 @@ returns-5 c =
       passed (past-length .before .is-length .ensures) (past-length .if1 .left),
       le-leb _ _ (past-count .if2 .left),
       passed (past-mark .before .is-mark .ensures) (past-mark .if3 .left),
-      scored-no _ (c .before .if4 .left),
+      sym (c .before .before .is-scored .ensures) ∙ c .before .if4 .left,
     ) (c .is-blank .ensures)
 
 pub is-ranged-spec : {M : Type 1} → statement M
 is-ranged-spec =
     tie.close
-    (tie.spec (λ c κs. search needs) returns returns-2 (λ c κs. search needs) returns-3 returns-4 (λ c κs. search needs) returns-5)
+    (tie.spec
+    (λ c κs. search needs)
+    returns
+    returns-2
+    (λ c κs. search needs)
+    returns-3
+    (λ c κs. search needs)
+    returns-4
+    (λ c κs. search needs)
+    returns-5)

@@ -1,0 +1,98 @@
+-- How an operation ends.
+--     outcome-only      two answers, each with what was given, that have one outcome are equal
+--     ended-refused, ended-done     what an outcome tells of the refusal, and what was given
+--     accepts-iff       the number sent back is 0 exactly where no reason applies
+--     refuses-iff       a refusal is sent back exactly where it is the first that applies
+--     written-refused, written-short, written-whole     writing into a room, by cases
+--     written-accepts-iff     it is written exactly where no reason applies and the room is long enough
+-- Assumes nothing.
+use mathlib.Core.Path.{_≡_, refl, sym, ap, _∙_}
+use mathlib.Core.Logic.{_↔_}
+use mathlib.Core.Option.{Option, none, some}
+use mathlib.Core.List.{List, [], _∷_, _++_}
+use Prim.Native.Nat.{ℕ, suc, _≤_, _<_}
+use native.Mathlib.Decide.{decLe}
+use native.Mathlib.Omega.{arith}
+use borrow.Author.Tests.{le-leb, lt-leb}
+use lib.Dec.{T, ltb, lt→ltb}
+use lib.ListN.{length, drop}
+use Rattle.cluster.specs.declared.refusal.Answer.{Answer}
+use Rattle.cluster.specs.declared.refusal.Answer.the-variants.{Done, Refused}
+use Rattle.cluster.specs.declared.refusal.Refusal.{Refusal}
+use Rattle.cluster.specs.declared.refusal.Refusal.the-variants.{NoRoom}
+use Rattle.cluster.specs.Refusal.{sentOf}
+use Rattle.cluster.specs.Reasons.{Reason, when, firstReason, First, NoneApplies}
+use Rattle.cluster.specs.Outcome.{Outcome, outcomeOf, ended, written}
+use Rattle.cluster.proofs.Laws.Reasons.{reason-told, reason-passed, first-some, first-none, none-append, first-iff, none-iff}
+use Rattle.cluster.proofs.Laws.Refusal.{sentOf-inj, number-pos}
+
+module _ {A : Type 0} where
+  pub outcome-only : {o : Outcome A} (a b : Answer) (x y : A) → outcomeOf a x ≡ o → outcomeOf b y ≡ o → (a ≡ b) × (x ≡ y)
+  outcome-only a b x y p q =
+      let e = p ∙ sym q in (sentOf-inj a b (ap (λ (o : Outcome A). o .sent) e), ap (λ (o : Outcome A). o .given) e)
+
+  -- out of an answer with what was given
+  pub ended-refused : (o : Option Refusal) (stays : A) (n : ℕ) (given : A) (f : Refusal) (x : A)
+      → ended o stays n given ≡ outcomeOf (Refused f) x → (o ≡ some f) × (x ≡ stays)
+  ended-refused (some g) stays n given f x e =
+      let q = outcome-only (Refused g) (Refused f) stays x e refl in let same = q .0 in (cc, sym (q .1))
+  ended-refused none stays n given f x e = let same = outcome-only (Done n) (Refused f) given x e refl .0 in (cc, cc)
+
+  pub ended-done : (o : Option Refusal) (stays : A) (n : ℕ) (given : A) (m : ℕ) (x : A)
+      → ended o stays n given ≡ outcomeOf (Done m) x → (o ≡ none) × (x ≡ given)
+  ended-done (some g) stays n given m x e = let same = outcome-only (Refused g) (Done m) stays x e refl .0 in (cc, cc)
+  ended-done none stays n given m x e = (refl, sym (outcome-only (Done n) (Done m) given x e refl .1))
+
+  number→ : (f : Option Refusal) (stays : A) (n : ℕ) (given : A) → ended f stays n given .sent .number ≡ 0 → f ≡ none
+  number→ (some f) stays n given e = absurd (number-pos f e)
+  number→ none stays n given e = refl
+
+  sent→ : (o : Option Refusal) (stays : A) (n : ℕ) (given : A) (f : Refusal)
+      → ended o stays n given .sent ≡ sentOf (Refused f) → o ≡ some f
+  sent→ (some g) stays n given f e = let same : Refused g ≡ Refused f = sentOf-inj (Refused g) (Refused f) e in cc
+  sent→ none stays n given f e = let same : Done n ≡ Refused f = sentOf-inj (Done n) (Refused f) e in cc
+
+  module _ (rs : List Reason) (stays : A) (n : ℕ) (given : A) where
+    pub accepts-iff : (ended (firstReason rs) stays n given .sent .number ≡ 0) ↔ NoneApplies rs
+    accepts-iff = (
+      λ e. none-iff rs .0 (number→ (firstReason rs) stays n given e),
+      λ h. ap (λ (o : Option Refusal). ended o stays n given .sent .number) (none-iff rs .1 h),
+    )
+
+    pub refuses-iff : (f : Refusal) → (ended (firstReason rs) stays n given .sent ≡ sentOf (Refused f)) ↔ First rs f
+    refuses-iff f = (
+      λ e. first-iff rs f .0 (sent→ (firstReason rs) stays n given f e),
+      λ h. ap (λ (o : Option Refusal). ended o stays n given .sent) (first-iff rs f .1 h),
+    )
+
+module _ (rs : List Reason) (out l : List ℕ) where
+  abbrev no-room : List Reason
+  no-room = when (ltb (length l) (length out)) NoRoom ∷ []
+
+  written-by : {f : Option Refusal} → firstReason (rs ++ no-room) ≡ f
+      → written rs out l ≡ ended f l (length out) (out ++ drop (length out) l)
+  written-by e = ap (λ (f : Option Refusal). ended f l (length out) (out ++ drop (length out) l)) e
+
+  pub written-refused : (f : Refusal) → firstReason rs ≡ some f → written rs out l ≡ outcomeOf (Refused f) l
+  written-refused f e = written-by (first-some rs no-room f e)
+
+  pub written-short : firstReason rs ≡ none → length l < length out → written rs out l ≡ outcomeOf (Refused NoRoom) l
+  written-short e h = written-by (first-none rs no-room e ∙ reason-told (ltb (length l) (length out)) NoRoom [] (le-leb _ _ h))
+
+  pub written-whole : firstReason rs ≡ none → length out ≤ length l
+      → written rs out l ≡ outcomeOf (Done (length out)) (out ++ drop (length out) l)
+  written-whole e h =
+      let fits = lt-leb (suc (length l)) (length out) (omega arith) in
+      written-by (first-none rs no-room e ∙ reason-passed (ltb (length l) (length out)) NoRoom [] fits)
+
+  pub written-accepts-iff : (written rs out l .sent .number ≡ 0) ↔ (NoneApplies rs × (length out ≤ length l))
+  written-accepts-iff = (to, λ h. ap (λ (o : Outcome (List ℕ)). o .sent .number) (written-whole (none-iff rs .1 (h .0)) (h .1)))
+    where
+      fits : (T (ltb (length l) (length out)) → ⊥) → Dec (length out ≤ length l) → length out ≤ length l
+      fits h (yes k) = k
+      fits h (no k) = absurd (h (lt→ltb (length l) (length out) (omega arith)))
+
+      to : written rs out l .sent .number ≡ 0 → NoneApplies rs × (length out ≤ length l)
+      to e =
+          let k = none-append rs no-room (accepts-iff (rs ++ no-room) l (length out) (out ++ drop (length out) l) .0 e) in
+          (k .0, fits (k .1 .0) (decLe (length out) (length l)))
