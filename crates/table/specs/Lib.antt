@@ -1,6 +1,4 @@
 -- What the contracts and the theorems of `table` cite, beside the definitions of `kept`. Read in this order.
--- the rows that a list of records holds, and its refusals
-pub mod Listing
 -- building
 pub mod Build
 -- rescoring
@@ -15,5 +13,3 @@ pub mod Columns
 pub mod Searched
 -- what the private functions cite: rows worked out
 pub mod Working
--- what the private functions cite: the records read and in order
-pub mod Arranged

@@ -1,6 +1,7 @@
 -- What the private functions that work rows out cite: one row over the columns beneath it, and every row that contains a cluster.
 --     workedTally W k z i d     row i of the columns, with the weight z, from the rows beneath, as the code has it; that it is the paper's
 --                               row: `proofs/Rows/WorkedRow.antt`
+--     unworkedTable r d         the rows of a list, in arrays, as a table with no results
 --     againTable W t c          the table with every row that contains c worked out again, by the paper's formulas
 --     Ready, Workable           what each may count on
 -- Assumes nothing.
@@ -8,16 +9,18 @@ use mathlib.Core.Bool.{cond}
 use mathlib.Core.List.{List}
 use Prim.Native.Nat.{ℕ, _-_, _≤_, _<_}
 use lib.Dec.{T}
-use lib.IntN.{ℤ, natAbs}
-use lib.ListN.{getD}
+use lib.IntN.{ℤ, pos, natAbs}
+use lib.ListN.{getD, replicate}
 use Rattle.laws.specs.Cluster.{inside, single}
 use Rattle.laws.specs.Limits.{Width, weightMax, degreeLow, degreeHigh, rowCap, wordValues}
 use Rattle.laws.specs.State.{scored}
+use Rattle.cluster.specs.Rule.{keepsRules}
+use Rattle.lists.specs.Listing.{Listed}
 use Rattle.trees.specs.Rescored.{workedOut, again}
 use Rattle.kept.specs.declared.table.Table.{Table}
 use Rattle.kept.specs.View.{rowAt, entryAt, entriesOf, clustersIn, clustersDown, tableOf}
 use Rattle.kept.specs.Blank.{isEmpty}
-use Rattle.kept.specs.Fit.{keepsRules, fitEntry}
+use Rattle.kept.specs.Fit.{fitEntry}
 use Rattle.kept.specs.Arrays.{Rising, Sized}
 use Rattle.table.specs.declared.tally.Tally.{Tally}
 use Rattle.table.specs.Tally.{tallyOf, ownTally}
@@ -34,6 +37,21 @@ workedTally W k z i d =
     cond (scored (getD (k .states) i 0))
     (cond (single (getD (k .clusters) i 0)) (ownTally 0 z i) (underTally (W .countMax) (ownTally 1 z i) (foundTally W k i d)))
     noTally
+
+abbrev pub unworkedTable : Listed → ℕ → Table
+unworkedTable r d = record {
+  rows = r .rows;
+  clusters = r .clusters;
+  weights = r .weights;
+  states = r .states;
+  lengths = replicate rowCap 0;
+  counts = replicate rowCap 0;
+  marks = replicate rowCap 0;
+  bests = replicate rowCap (pos 0);
+  «members_low» = replicate rowCap 0;
+  «members_high» = replicate rowCap 0;
+  degree = d;
+}
 
 abbrev pub againTable : Width → Table → ℕ → Table
 againTable W t c = tableOf (t .degree) (again (workedOut W (t .degree) (clustersIn t)) c (entriesOf t (t .rows)))

@@ -11,7 +11,7 @@ use crate::tally::plus;
 use crate::tally::under;
 use cluster::highest;
 use cluster::is_inside;
-use kept::SCORED;
+use cluster::is_scored;
 ghost use mathlib.Core.Path.{_≡_};
 ghost use mathlib.Core.List.{[]};
 ghost use Prim.Native.Nat.{_≤_, _<_};
@@ -112,7 +112,7 @@ fn last<'a>(
     if clusters[at] != rest {
         return none();
     }
-    if states[at] != SCORED {
+    if !is_scored(states[at]) {
         return none();
     }
     part(counts, marks, bests, lows, highs, at)
@@ -162,7 +162,7 @@ pub(crate) fn search<'a>(
         i -= 1;
         let c = clusters[i];
         if is_inside(c, rest) {
-            if states[i] == SCORED {
+            if is_scored(states[i]) {
                 let one = part(counts, marks, bests, lows, highs, i);
                 let other = rest - c;
                 if other == 0 {

@@ -8,9 +8,9 @@ use crate::tally::Tally;
 use crate::tally::none;
 use crate::tally::under;
 use cluster::is_inside;
+use cluster::is_scored;
 use cluster::is_single;
 use kept::COUNT_MAX;
-use kept::SCORED;
 use kept::Table;
 use kept::WORD_ROWS;
 ghost use mathlib.Core.Path.{_≡_};
@@ -77,7 +77,7 @@ fn worked<'a>(
         (columns (now (clusters .entry)) (now (states .entry)) (now (counts .entry)) (now (marks .entry))
         (now (bests .entry)) (now (lows .entry)) (now (highs .entry))) weight i degree ⌝ }
 {
-    if states[i] != SCORED {
+    if !is_scored(states[i]) {
         return none();
     }
     let c = clusters[i];

@@ -20,19 +20,20 @@ use lib.Seq.{getD-set-same, getD-set-other}
 use Rattle.laws.specs.Cluster.{inside}
 use Rattle.laws.specs.Limits.{Width, WidthFacts, rowCap, wordValues}
 use Rattle.laws.proofs.Cluster.{inside-refl}
+use Rattle.cluster.specs.Rule.{isScore, keepsRules}
 use Rattle.trees.specs.Rows.{Entry}
 use Rattle.trees.specs.Result.{Result}
 use Rattle.trees.specs.Rescored.{putScore, workedOut, again}
 use Rattle.kept.specs.declared.table.Table.{Table}
 use Rattle.kept.specs.View.{rowAt, entryAt, entriesOf, clustersIn, tableOf}
-use Rattle.kept.specs.Fit.{keepsRules, fitEntry, isFit}
+use Rattle.kept.specs.Fit.{fitEntry, isFit}
 use Rattle.kept.specs.Rows.{placeOf, hasRow}
 use Rattle.kept.specs.Arrays.{Sized}
 use Rattle.kept.specs.Blank.{isEmpty}
 use Rattle.kept.proofs.Laws.Fit.{FitTable, isFit→, fit-rules}
 use Rattle.kept.proofs.Laws.Clusters.{clusters-are}
 use Rattle.kept.proofs.Laws.Rows.{hasRow-is, placeOf-at}
-use Rattle.table.specs.Rescore.{isScore, newTable}
+use Rattle.table.specs.Rescore.{newTable}
 use Rattle.table.specs.Working.{againTable, Workable}
 use Rattle.table.proofs.Fitting.FitTables.{put-rules}
 

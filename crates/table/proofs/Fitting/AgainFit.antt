@@ -19,11 +19,12 @@ use Rattle.laws.specs.Lists.{Falling}
 use Rattle.laws.specs.Row.{Row}
 use Rattle.laws.proofs.Choose.{few-mono}
 use Rattle.laws.proofs.Tests.{T-dec, T-true, T-false}
+use Rattle.cluster.specs.Rule.{keepsRules}
+use Rattle.cluster.proofs.Laws.Rule.{rules→}
 use Rattle.trees.specs.Rows.{Entry, cl}
 use Rattle.trees.specs.Result.{Result}
 use Rattle.trees.specs.Rescored.{workedOut, againIf, again}
-use Rattle.kept.specs.Fit.{keepsRules, fitEntry}
-use Rattle.kept.proofs.Laws.Fit.{rules→}
+use Rattle.kept.specs.Fit.{fitEntry}
 use Rattle.table.proofs.Tallies.Decoded.{good-of-fit}
 use Rattle.table.proofs.Fitting.KeepsFit.{Over, worked-fit}
 
@@ -71,7 +72,7 @@ module _ (W : Width) (one-limit : 1 ≤ W .countMax) (d c : ℕ) (cs : List ℕ)
     falls = falls;
     full = full;
     listed = k .listed e (here refl);
-    light = rules→ W (e .row) (k .rules e (here refl)) .1 .in-range;
+    light = rules→ W (e .row) (k .rules e (here refl)) .1 .score .in-range;
     nonzero = λ x m. let q = again-row F c t x m in
         λ z. full (cl (q .0)) (k .listed (q .0) (there (q .1))) (sym (ap (λ (r : Row). r .cluster) (q .2)) ∙ z);
     less = λ x m. let q = again-row F c t x m in

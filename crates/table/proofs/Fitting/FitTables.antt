@@ -11,9 +11,9 @@ use mathlib.Core.Logic.{_≢_}
 use mathlib.Core.Bool.{Bool, true, false, cond}
 use mathlib.Core.List.{List, map, Memᴰ·map, Memᴰ·of-map}
 use mathlib.Core.List.{List·Memᴰ as Mem}
-use Prim.Native.Nat.{ℕ, _-_, _^_, _≤_, _<_}
+use Prim.Native.Nat.{ℕ, _-_, _≤_}
 use native.Mathlib.Omega.{arith}
-use lib.Dec.{T, eqb, lit≤}
+use lib.Dec.{T, eqb}
 use lib.IntN.{ℤ}
 use lib.ListN.{length, length-map}
 use Rattle.laws.specs.Cluster.{inside}
@@ -23,23 +23,22 @@ use Rattle.laws.specs.Row.{Row}
 use Rattle.laws.proofs.Appended.{map-through}
 use Rattle.laws.proofs.Cluster.{zero-inside}
 use Rattle.laws.proofs.Down.{down-length, down-mem}
-use Rattle.cluster.proofs.Laws.Rule.{Keeps, kept→keeps}
+use Rattle.cluster.specs.Rule.{isScore, keepsRules}
+use Rattle.cluster.proofs.Laws.Rule.{score→keeps, rules→, →rules}
 use Rattle.trees.specs.Rows.{Entry, cl}
 use Rattle.trees.specs.Result.{Result, blank}
 use Rattle.trees.specs.Built.{builtTable}
 use Rattle.trees.specs.Rescored.{putScore, workedOut, again, rescored}
 use Rattle.trees.proofs.Rescore.{put-cluster, put-other, again-clusters}
-use Rattle.laws.proofs.Width.{narrow-facts}
 use Rattle.kept.specs.declared.table.Table.{Table}
 use Rattle.kept.specs.View.{entryAt, entriesOf, tableOf}
-use Rattle.kept.specs.Fit.{keepsRules, fitEntry, isFit}
-use Rattle.table.specs.Arranged.{unworked}
-use Rattle.table.specs.Rescore.{isScore, newTable}
+use Rattle.kept.specs.Fit.{fitEntry, isFit}
+use Rattle.table.specs.Rescore.{newTable}
 use Rattle.table.proofs.Fitting.AgainFit.{Listed, again-fit}
-use Rattle.kept.proofs.Laws.Fit.{recordIn, rules→, →rules, fit-rules, isFit→, →isFit, fit-falls, fit-each, entries-rising}
+use Rattle.kept.proofs.Laws.Fit.{fit-rules, isFit→, →isFit, fit-falls, fit-each, entries-rising}
 use Rattle.kept.proofs.Laws.Blank.{blank→empty}
 use Rattle.kept.proofs.Laws.View.{entries-table, table-past}
-use Rattle.table.proofs.Laws.Build.{Buildable, unworked-clusters, again-built}
+use Rattle.table.proofs.Laws.Build.{degree-range, Buildable, unworkedRow, unworked-clusters, again-built}
 
 -- ---- rows that may be made a table of
 
@@ -124,20 +123,11 @@ module _ (W : Width) (c : ℕ) (z : ℤ) (s : ℕ) (score : T (isScore z s)) whe
   pub put-rules : (r : Row) → T (keepsRules W r) → T (keepsRules W (putScore c z s r))
   put-rules r h = go (eqb (r .cluster) c)
     where
-      q : (r .cluster < 2 ^ W .taxa) × Keeps (recordIn r) false
-      q = rules→ W r h
-
-      p : Keeps (record { cluster = 1; weight = z; state = s }) false
-      p = kept→keeps (record { cluster = 1; weight = z; state = s }) false score
-
       go : (b : Bool) → T (keepsRules W (cond b (record { cluster = r .cluster; weight = z; state = s }) r))
-      go true = →rules W (record { cluster = r .cluster; weight = z; state = s }) (q .0) (record {
-        has-taxon = q .1 .has-taxon;
-        has-state = p .has-state;
-        no-spare = refl;
-        no-weight = p .no-weight;
-        in-range = p .in-range;
-      })
+      go true =
+          let q = rules→ W r h in
+          →rules W (record { cluster = r .cluster; weight = z; state = s }) (q .0)
+          (record { has-taxon = q .1 .has-taxon; no-spare = refl; score = score→keeps z s score })
       go false = h
 
   put-clusters : (es : List (Entry Result)) → map cl (map withScore es) ≡ map cl es
@@ -187,18 +177,18 @@ rescored-fit W facts t c z s h score =
 -- ---- built
 
 module _ (W : Width) (facts : WidthFacts W) (d : ℕ) (rs : List Row) (k : Buildable W d rs) where
-  accepted-rows : Rows W d (map unworked rs)
+  accepted-rows : Rows W d (map unworkedRow rs)
   accepted-rows = record {
-    low = k .low;
-    high = k .high;
-    filled = omega (arith, length-map rs unworked, k .filled);
-    capped = omega (arith, length-map rs unworked, k .capped);
+    low = degree-range (k .degree) .0;
+    high = degree-range (k .degree) .1;
+    filled = omega (arith, length-map rs unworkedRow, k .filled);
+    capped = omega (arith, length-map rs unworkedRow, k .capped);
     falls = rw (unworked-clusters rs) (k .facts .falls);
-    each = λ e m. let q = Memᴰ·of-map unworked rs m in
+    each = λ e m. let q = Memᴰ·of-map unworkedRow rs m in
         subst (λ (x : Entry Result). T (keepsRules W (x .row))) (q .2) (k .rules (q .0) (q .1));
   }
 
   pub built-fit : T (isFit W (tableOf d (builtTable W d rs)))
   built-fit =
-      subst (λ (es : List (Entry Result)). T (isFit W (tableOf d es))) (again-built W facts d rs (k .facts))
-      (again-table-fit W facts d 0 (map unworked rs) accepted-rows (λ e m n. absurd (n (zero-inside (cl e)))))
+      subst (λ (es : List (Entry Result)). T (isFit W (tableOf d es))) (again-built facts d rs (k .facts))
+      (again-table-fit W facts d 0 (map unworkedRow rs) accepted-rows (λ e m n. absurd (n (zero-inside (cl e)))))

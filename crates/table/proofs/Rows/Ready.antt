@@ -86,7 +86,7 @@ module _ {W : Width} {k : Columns} {starts : List ℕ} {z : ℤ} {i d : ℕ} (R 
 
   found-keeps : Keeps cs C 0 C (foundRes .1)
   found-keeps =
-      sumCovers-keeps cs C (partsOf k i) (parts-keep limit k cs i (R .sound) C (λ j h. R .rising .up j i h (R .place))) (d - 1) C
+      sumCovers-keeps cs C (partsOf k i) (parts-keep (R .sound) C (λ j h. R .rising .up j i h (R .place))) (d - 1) C
 
   -- ---- the row by itself
 

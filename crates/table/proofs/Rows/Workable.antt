@@ -24,14 +24,14 @@ use Rattle.laws.specs.Lists.{Falling}
 use Rattle.laws.specs.Row.{Row}
 use Rattle.laws.proofs.Down.{down-length, mem-down, down-mem, down-falling}
 use Rattle.laws.proofs.Integers.{mag-le-abs}
-use Rattle.cluster.proofs.Laws.Rule.{Keeps}
+use Rattle.cluster.specs.Rule.{Keeps, keepsRules}
+use Rattle.cluster.proofs.Laws.Rule.{rules→}
 use Rattle.trees.specs.Rows.{Entry, cl}
 use Rattle.trees.specs.Result.{Result}
 use Rattle.trees.specs.Rescored.{workedOut, again}
 use Rattle.kept.specs.declared.table.Table.{Table}
 use Rattle.kept.specs.View.{rowAt, entryAt, entriesOf, clustersIn}
-use Rattle.kept.specs.Fit.{keepsRules, fitEntry}
-use Rattle.kept.proofs.Laws.Fit.{recordIn, rules→}
+use Rattle.kept.specs.Fit.{fitEntry}
 use Rattle.kept.proofs.Laws.Clusters.{clusters-are}
 use Rattle.table.specs.Working.{Workable}
 use Rattle.table.proofs.Fitting.AgainFit.{again-fit, again-over, Listed}
@@ -49,14 +49,15 @@ module _ {W : Width} (facts : WidthFacts W) {given : Table} {c : ℕ} (w : Worka
 
   -- ---- the rows as they are given
 
-  pub given-rules : (i : ℕ) → i < given .rows → (rowAt given i .cluster < 2 ^ W .taxa) × Keeps (recordIn (rowAt given i)) false
+  pub given-rules : (i : ℕ) → i < given .rows → (rowAt given i .cluster < 2 ^ W .taxa)
+      × Keeps (rowAt given i .cluster) (rowAt given i .weight) (rowAt given i .state) false
   given-rules i h = rules→ W (rowAt given i) (w .rules i h)
 
   pub cluster-word : (i : ℕ) → i < given .rows → getD (given .clusters) i 0 < wordValues
   cluster-word i h = lt-of-lt-of-le (given-rules i h .0) (let most : 2 ^ W .taxa ≤ 2 ^ 64 = pow-mono (facts .taxa) in most)
 
   pub weight-fits : (i : ℕ) → i < given .rows → SFits w32 (getD (given .weights) i (pos 0))
-  weight-fits i h = record { sfits = omega (arith, given-rules i h .1 .in-range, mag-le-abs (getD (given .weights) i (pos 0))) }
+  weight-fits i h = record { sfits = omega (arith, given-rules i h .1 .score .in-range, mag-le-abs (getD (given .weights) i (pos 0))) }
 
   pub given-full : (x : ℕ) → Mem x (clustersIn given) → x ≢ 0
   given-full x m e =

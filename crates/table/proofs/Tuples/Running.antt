@@ -6,10 +6,9 @@
 --     plus-asks, running-added              a row that adds something: nothing overflows, and the loop goes on
 -- Assumes nothing.
 use mathlib.Core.Path.{_≡_, sym, ap, ap₂, _∙_, subst}
-use mathlib.Core.Logic.{_≢_}
 use mathlib.Core.Bool.{Bool, true, false, cond, _&&_}
 use mathlib.Core.Option.{none}
-use mathlib.Core.List.{List, [], _∷_, map, List·Memᴰ as Mem}
+use mathlib.Core.List.{List, [], _∷_, List·Memᴰ as Mem}
 use Prim.Native.Nat.{ℕ, suc, _+_, _-_, _^_, _≤_, _<_}
 use native.Mathlib.Nat.{le-refl, le-trans}
 use native.Mathlib.Omega.{arith}
@@ -17,7 +16,7 @@ use lib.Dec.{T}
 use lib.ListN.{getD}
 use Rattle.laws.specs.Cluster.{inside, highest}
 use Rattle.laws.specs.Limits.{degreeHigh, wordValues}
-use Rattle.laws.proofs.Descends.{Descends}
+use Rattle.laws.specs.State.{scored}
 use Rattle.laws.proofs.Down.{mem-down}
 use Rattle.trees.specs.Rows.{Entry, cl, sc}
 use Rattle.trees.specs.Kind.{Res}
@@ -33,7 +32,6 @@ use Rattle.table.specs.Sums.{noTally, plusTally}
 use Rattle.table.proofs.Tuples.Searched.{sumCovers-search}
 use Rattle.table.proofs.Tallies.Counts.{tally-tuples, tally-count-le}
 use Rattle.table.proofs.Tallies.Encoded.{tally-plus}
-use Rattle.table.proofs.Tuples.Readable.{one-of-scored}
 use Rattle.table.proofs.Tuples.Searchable.{taxon-fits, searched-fall, searched-few}
 use Rattle.table.proofs.Tuples.SearchRow.{Adds}
 
@@ -120,10 +118,10 @@ module _ {limit : ℕ} {k : Columns} {starts : List ℕ} {end R left start : ℕ
         after (r .x) (r .tally) (r .counted)
         (scan-outside sumKind (adds k end R left) R e (partsOf k (i - 1)) (r .x) (λ t. subst T h t))
 
-    pub running-unscored : getD (k .states) (i - 1) 0 ≢ 1 → Running limit k starts end R left start sum (i - 1)
+    pub running-unscored : scored (getD (k .states) (i - 1) 0) ≡ false → Running limit k starts end R left start sum (i - 1)
     running-unscored h =
         after (r .x) (r .tally) (r .counted)
-        (scan-unscored sumKind (adds k end R left) R e (partsOf k (i - 1)) (r .x) (λ t. h (one-of-scored (getD (k .states) (i - 1) 0) t)))
+        (scan-unscored sumKind (adds k end R left) R e (partsOf k (i - 1)) (r .x) (λ t. subst T h t))
 
     module _ {t : Tally} (a : Adds limit k end R left (i - 1) t) where
       abbrev z : Res

@@ -22,6 +22,7 @@ use mir.Syntax.{w64}
 use mir.Val.{SFits}
 use Rattle.laws.specs.Cluster.{inside, highest}
 use Rattle.laws.specs.Limits.{wordValues}
+use Rattle.laws.specs.State.{scored}
 use Rattle.laws.proofs.Cluster.{le-of-inside}
 use Rattle.laws.proofs.Taxa.{highest-le, highest-gt}
 use Rattle.laws.proofs.Tests.{true-T}
@@ -40,7 +41,7 @@ use Rattle.table.proofs.Tallies.CoverSums.{sumCovers-keeps}
 use Rattle.table.proofs.Tallies.Encoded.{tally-under}
 use Rattle.table.proofs.Tallies.Held.{Keeps, keeps-counted, keeps-times, Part}
 use Rattle.table.proofs.Tallies.Overflow.{Safe, part-clear, part-safe}
-use Rattle.table.proofs.Tuples.Readable.{LowWords, scored-of-one, readable-fewer, part-keeps, part-is}
+use Rattle.table.proofs.Tuples.Readable.{LowWords, readable-fewer, part-keeps, part-is}
 use Rattle.table.proofs.Tuples.Searchable.{topOf, taxon-fits, searched-fall, rows-below, searched-keep}
 
 pub record Led (limit : ℕ) (k : Columns) (starts : List ℕ) (end R j : ℕ) : Type 0 where
@@ -48,7 +49,7 @@ pub record Led (limit : ℕ) (k : Columns) (starts : List ℕ) (end R j : ℕ) :
   pub place : j < end
   pub reached : getD starts (highest R) 0 ≤ j
   pub within : inside (getD (k .clusters) j 0) R ≡ true
-  pub scored : getD (k .states) j 0 ≡ 1
+  pub scored : scored (getD (k .states) j 0) ≡ true
   pub words : LowWords k
 
 -- row j adds g, of which the code has the tally t
@@ -80,7 +81,7 @@ module _ {limit : ℕ} {k : Columns} {starts : List ℕ} {end R j : ℕ} (left :
   is-inside = true-T (h .within)
 
   is-scored : T (sc e)
-  is-scored = scored-of-one (getD (k .states) j 0) (h .scored)
+  is-scored = true-T (h .scored)
 
   reaches : 2 ^ highest R ≤ c
   reaches =
@@ -91,10 +92,10 @@ module _ {limit : ℕ} {k : Columns} {starts : List ℕ} {end R j : ℕ} (left :
   is-led = leads-of-reach c R (s .nonzero) is-inside reaches
 
   own : Part cs b e
-  own = part-keeps limit k cs end (s .readable .sound) b j (h .place) (rows-below s j (h .place)) is-scored
+  own = part-keeps (s .readable .sound) b j (h .place) (rows-below s j (h .place)) is-scored
 
   own-is : partTally k j ≡ tallyOf limit (e .val)
-  own-is = part-is limit k cs end (s .readable .sound) (h .words) j (h .place) is-scored
+  own-is = part-is (s .readable .sound) (h .words) j (h .place) is-scored
 
   own-counted : Counted (e .val .1)
   own-counted = keeps-counted cs b 1 c (e .val .1) (own .keeps)

@@ -42,13 +42,13 @@ module _ {limit : ℕ} {k : Columns} {starts : List ℕ} {end R : ℕ} (s : Sear
   }
 
   pub searched-fall : Descends (map cl (partsOf k end))
-  searched-fall = parts-fall limit k (s .readable .cs) end (s .readable .sound)
+  searched-fall = parts-fall (s .readable .sound)
 
   pub rows-below : (j : ℕ) → j < end → getD (k .clusters) j 0 < topOf R
   rows-below j l = s .begins .each (suc (highest R)) taxon-fits .less j (omega (arith, s .reach))
 
   pub searched-keep : (e : Entry Res) → Mem e (partsOf k end) → T (sc e) → Part (s .readable .cs) (topOf R) e
-  searched-keep = parts-keep limit k (s .readable .cs) end (s .readable .sound) (topOf R) rows-below
+  searched-keep = parts-keep (s .readable .sound) (topOf R) rows-below
 
   pub searched-few : (left : ℕ) → left < degreeHigh → sumCovers left R (partsOf k end) .0 < wordValues
   searched-few left h =

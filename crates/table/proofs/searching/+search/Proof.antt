@@ -10,7 +10,7 @@ use Rattle.laws.proofs.Tests.{true-T}
 use Rattle.table.proofs.Tuples.Searchable.{start-past}
 use Rattle.table.proofs.Tuples.SearchRow.{inner-asks, under-asks}
 use Rattle.table.proofs.Tuples.Running.{running-all, running-ended, running-outside, running-unscored, running-added}
-use Rattle.table.proofs.searching.+search.Proof.Places.{μ-search, search-at, claims, Inv, μ, reached, loopStart, tested, turn}
+use Rattle.table.proofs.searching.+search.Proof.Places.{μ-search, search-at, claims, Inv, μ, reached, loopStart, looked, tested, turn}
 use Rattle.table.proofs.searching.+search.Proof.Places.{partRow, asked, place, start-is, two, below, led}
 use Rattle.table.proofs.searching.+search.Proof.Places.{next-small, adds-whole, adds-part, asks}
 use Rattle.table.proofs.searching.search.Reads as search′
@@ -38,8 +38,8 @@ module _ (t : ℕ) where
   mul-c : search-lts.Need-mul-c (claims t) (search-at t) search′.Post Inv μ
   mul-c c = let q = asked t (loopStart t (c .before)) in record { fits = omega (arith, q .within, q .capped, below t c) }
 
-  shared-slice-read-if3 : search-lts.Need-shared-slice-read-if3 (claims t) (search-at t) search′.Post Inv μ
-  shared-slice-read-if3 c =
+  shared-slice-read-is-scored : search-lts.Need-shared-slice-read-is-scored (claims t) (search-at t) search′.Post Inv μ
+  shared-slice-read-is-scored c =
       let at-test = c .before .before .before .before in
       omega (arith, below t at-test, asked t (loopStart t (at-test .before)) .readable .long .states)
 
@@ -91,8 +91,8 @@ module _ (t : ℕ) where
 
   loop-again-3 : search-lts.Need-loop-again-3 (claims t) (search-at t) search′.Post Inv μ
   loop-again-3 c =
-      let at-test = c .before .before .before .before .before in
-      running-unscored (at-test .before .loop .inv) (at-test .loop-test .taken) (c .if3 .left)
+      let at-test = looked t (c .before) in
+      running-unscored (at-test .before .loop .inv) (at-test .loop-test .taken) (sym (c .before .is-scored .ensures) ∙ c .if3 .left)
 
   loop-again-4 : search-lts.Need-loop-again-4 (claims t) (search-at t) search′.Post Inv μ
   loop-again-4 c =
@@ -113,7 +113,8 @@ pub +search-spec : {M : Type 1} → statement M
     (mul-c t)
     (λ c. omega (arith, below t (c .before), asked t (loopStart t (c .before .before)) .readable .long .clusters))
     (λ c κs. search needs)
-    (shared-slice-read-if3 t)
+    (shared-slice-read-is-scored t)
+    (λ c κs. search needs)
     (part-requires t)
     (λ c. le-of-inside _ _ (true-T (led t (c .before) .within)))
     (λ c κs. asks t (tested t (c .before .before)) (adds-whole t c))

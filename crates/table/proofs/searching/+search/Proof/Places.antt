@@ -3,7 +3,7 @@
 --     μ-search, search-at, search-below     the measure of the calls, the children left, and what a call with that many asks
 --     claims                   what the functions that are called ask and tell
 --     Inv, μ                   the loop's invariant and its measure, the rows left
---     reached, loopStart, tested, turn, partRow     from one place back to another
+--     reached, loopStart, looked, tested, turn, partRow     from one place back to another
 --     given, asked, words      the columns, what the search may count on, and that low words of marks are words
 --     place, start-is, two     before the loop: the highest taxon, where its rows start, and that two children may be left
 --     below, led               at a row: it is one of those searched, and it leads what is left
@@ -19,6 +19,7 @@ use Rattle.laws.specs.Cluster.{highest}
 use Rattle.laws.specs.Limits.{wordValues}
 use Rattle.cluster.proofs.highest.Reads as highest-reads
 use Rattle.cluster.proofs.is_inside.Reads as is-inside-reads
+use Rattle.cluster.proofs.is_scored.Reads as is-scored-reads
 use Rattle.table.specs.declared.tally.Tally.{Tally}
 use Rattle.table.specs.Searched.{Searchable}
 use Rattle.table.specs.Columns.{Columns, columns}
@@ -58,6 +59,8 @@ claims t = (
   none-reads.Learnt,
   is-inside-reads.Asked,
   is-inside-reads.Learnt,
+  is-scored-reads.Asked,
+  is-scored-reads.Learnt,
   part-reads.Asked,
   part-reads.Learnt,
   plus-reads.Asked,
@@ -96,6 +99,9 @@ module _ (t : ℕ) where
   abbrev pub Turn : Type 0
   Turn = search-lts.In-loop (claims t) (search-at t) search′.Post Inv μ
 
+  abbrev pub Told : Type 0
+  Told = search-lts.After-is-scored (claims t) (search-at t) search′.Post Inv μ
+
   abbrev pub Row : Type 0
   Row = search-lts.Then3 (claims t) (search-at t) search′.Post Inv μ
 
@@ -121,9 +127,13 @@ module _ (t : ℕ) where
   abbrev pub loopStart : Loop → Start
   loopStart c = opened (known c)
 
-  -- back to the loop's test and head, from where a row is found scored and inside; and to there, from the highest taxon that it leaves
+  -- back to the loop's test and head, from where it is told whether a row inside is scored, and from where it is; and to there, from the
+  -- highest taxon that it leaves
+  abbrev pub looked : Told → Turn
+  looked c = c .before .before .before .before .before
+
   abbrev pub tested : Row → Turn
-  tested c = c .before .before .before .before .before
+  tested c = looked (c .before)
 
   abbrev pub turn : Row → Loop
   turn c = tested c .before
@@ -163,8 +173,8 @@ module _ (t : ℕ) where
     asked = asked (loopStart (turn c));
     place = below (tested c);
     reached = omega (arith, turn c .loop .inv .begins, tested c .loop-test .taken);
-    within = sym (c .before .before .before .is-inside .ensures) ∙ c .before .before .if2 .taken;
-    scored = c .if3 .taken;
+    within = let at = c .before .before .before in sym (at .before .is-inside .ensures) ∙ at .if2 .taken;
+    scored = sym (c .before .is-scored .ensures) ∙ c .if3 .taken;
     words = words (known (turn c));
   }
 
