@@ -6,13 +6,12 @@
 -- Assumes nothing.
 use mathlib.Core.Path.{_≡_, ap, _∙_, sym}
 use mathlib.Core.Logic.{_≢_, _↔_}
-use mathlib.Core.Option.{Option, none, some}
+use mathlib.Core.Option.{none, some}
 use mathlib.Core.List.{List, []}
 use Prim.Native.Nat.{ℕ}
 use lib.Dec.{T}
 use Rattle.laws.specs.Limits.{Width, WidthFacts, isDegree}
 use Rattle.laws.specs.Row.{Row}
-use Rattle.cluster.specs.declared.refusal.Refusal.{Refusal}
 use Rattle.cluster.specs.declared.refusal.Refusal.the-variants.{NoTree}
 use Rattle.cluster.specs.Reasons.{firstReason}
 use Rattle.lists.specs.Records.{rowsOf}

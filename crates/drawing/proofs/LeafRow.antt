@@ -37,7 +37,7 @@ use Rattle.trees.proofs.Formula.Rows.{givenOf, mem-scored}
 use Rattle.trees.proofs.Theorems.{count-iff}
 use Rattle.trees.proofs.Joined.TreeTest.{tree-of}
 use Rattle.kept.specs.declared.table.Table.{Table}
-use Rattle.kept.specs.View.{rowAt, resultAt, entryAt, entriesOf, clustersIn, clustersDown}
+use Rattle.kept.specs.View.{rowAt, resultAt, entryAt, clustersIn, clustersDown}
 use Rattle.kept.specs.Rows.{shownRows, leafSet}
 use Rattle.kept.specs.Arrays.{Rising}
 use Rattle.kept.proofs.Laws.Clusters.{clusters-are}
@@ -84,7 +84,7 @@ module _ (W : Width) (facts : WidthFacts W) (d : ℕ) (rs : List Row) (k : Build
   pub rising : Rising (t .clusters) (t .rows)
   rising = record {
     long = omega (arith, table-sized d (builtTable W d rs) capped .clusters, capped);
-    up = isFit→ narrow narrow-facts t (built-fit d rs k) .rising;
+    up = isFit→ W facts t (built-fit W facts d rs k) .rising;
   }
 
   pub row-at : (i : ℕ) → i < t .rows → (r : Row) × Mem r rs × (entry r ≡ entryAt t i)

@@ -3,7 +3,7 @@ use mathlib.Core.Path.{_≡_, sym, ap, ap₂, _∙_}
 use Prim.Native.Nat.{ℕ, _<_}
 use native.Mathlib.Omega.{arith}
 use borrow.Author.Needs.{needs}
-use lib.ListN.{getD}
+use lib.ListN.{length, getD}
 use Rattle.laws.specs.Limits.{narrow, rowCap}
 use Rattle.laws.proofs.Width.{narrow-facts}
 use Rattle.cluster.specs.declared.refusal.Answer.the-variants.{Refused}
@@ -14,7 +14,6 @@ use Rattle.texts.specs.Text.{holding}
 use Rattle.kept.specs.declared.table.Table.{Table}
 use Rattle.kept.specs.Rows.{leafSet}
 use Rattle.members.proofs.Drawn.{Success, drawn-refused, drawn-done}
-use Rattle.members.proofs.Laws.Gathered.{holds-front, holds-fits, holds-count}
 use Rattle.drawing.proofs.Laws.Draw.{tree-on, leaf-row-lt, drawn-text-refused, drawn-text-done}
 use Rattle.drawing.proofs.drawing.drawn_text.Statement.{statement}
 use Rattle.drawing.proofs.drawing.drawn_text.Tie as tie
@@ -44,10 +43,10 @@ returns c =
     ∙ drawn-text-refused narrow _ (drawn-refused narrow _ (told .before .before .drawn-tree .ensures) (told .answer .given .1))
 
 array-share-prefix-xs : tie.Need-array-share-prefix-xs
-array-share-prefix-xs c = holds-fits (drawn (c .before) .members)
+array-share-prefix-xs c = drawn (c .before) .fits
 
 slice-aggregate-text-of : tie.Need-slice-aggregate-text-of
-slice-aggregate-text-of c = holds-count (drawn (c .before .before) .members)
+slice-aggregate-text-of c = let d = drawn (c .before .before) in d .size ∙ ap length (sym (d .front))
 
 mul-text-of : tie.Need-mul-text-of
 mul-text-of c = omega (arith, row-lt (c .before .before))
@@ -60,13 +59,13 @@ text-of-requires c κs =
     let told = c .before .before .before in
     let d = drawn told in
     let tree = tree-on narrow narrow-facts (d .table) in
-    rw (holds-front (d .members), top told) (tree, d .table .sound _ (tree .top) .1)
+    rw (d .front, top told) (tree, d .table .sound _ (tree .top) .1)
 
 returns-2 : tie.Need-returns-2
 returns-2 c =
     let told = c .before .before .before .before in
     let d = drawn told in
-    let same = c .text-of .ensures ∙ ap holding (ap₂ textOf (holds-front (d .members)) (top told)) in
+    let same = c .text-of .ensures ∙ ap holding (ap₂ textOf (d .front) (top told)) in
     drawn-text-done narrow (table told) (d .none) (d .row) same
 
 pub drawn-text-spec : {M : Type 1} → statement M

@@ -14,7 +14,6 @@ use Rattle.cluster.proofs.Laws.Outcome.{written-short, written-whole}
 use Rattle.kept.specs.declared.table.Table.{Table}
 use Rattle.members.specs.Draw.{membersOf}
 use Rattle.members.proofs.Drawn.{Success, drawn-refused, drawn-done}
-use Rattle.members.proofs.Laws.Gathered.{holds-front, holds-fits, holds-count}
 use Rattle.drawing.proofs.Laws.Draw.{tree-refused, tree-put}
 use Rattle.drawing.proofs.drawing.tree.Statement.{statement}
 use Rattle.drawing.proofs.drawing.tree.Tie as tie
@@ -41,20 +40,20 @@ returns c =
 returns-2 : tie.Need-returns-2
 returns-2 c =
     let told = c .before in
-    sym (written-short [] (membersOf (table told)) (room told) refl (omega (arith, drawn told .members .size, c .if1 .taken)))
+    sym (written-short [] (membersOf (table told)) (room told) refl (omega (arith, drawn told .size, c .if1 .taken)))
     ∙ tree-put narrow (table told) (room told) (drawn told .none)
 
 array-share-prefix-xs : tie.Need-array-share-prefix-xs
-array-share-prefix-xs c = holds-fits (drawn (c .before .before) .members)
+array-share-prefix-xs c = drawn (c .before .before) .fits
 
 slice-aggregate-put-clusters : tie.Need-slice-aggregate-put-clusters
-slice-aggregate-put-clusters c = let test = c .before .before in holds-count (drawn (test .before) .members)
+slice-aggregate-put-clusters c = let d = drawn (c .before .before .before) in d .size ∙ ap length (sym (d .front))
 
 put-clusters-requires : tie.Need-put-clusters-requires
 put-clusters-requires c κs =
     let test = c .before .before .before in
     let d = drawn (test .before) in
-    (omega (arith, holds-count (d .members), test .if1 .left), rw (holds-front (d .members)) (λ x m. d .table .sound x m .1))
+    rw (d .front) (omega (arith, d .size, test .if1 .left), λ x m. d .table .sound x m .1)
 
 returns-3 : tie.Need-returns-3
 returns-3 c =
@@ -63,9 +62,9 @@ returns-3 c =
     let told = test .before in
     let d = drawn told in
     let xs = membersOf (table told) in
-    let whole = ap (λ (o : List ℕ). o ++ drop (length o) (room told)) (holds-front (d .members)) in
-    ap₂ outcomeOf (ap Done (d .members .size)) (put .put-clusters .ensures ∙ whole)
-    ∙ sym (written-whole [] xs (room told) refl (omega (arith, d .members .size, test .if1 .left)))
+    let whole = ap (λ (o : List ℕ). o ++ drop (length o) (room told)) (d .front) in
+    ap₂ outcomeOf (ap Done (d .size)) (put .put-clusters .ensures ∙ whole)
+    ∙ sym (written-whole [] xs (room told) refl (omega (arith, d .size, test .if1 .left)))
     ∙ tree-put narrow (table told) (room told) (d .none)
 
 pub tree-spec : {M : Type 1} → statement M
