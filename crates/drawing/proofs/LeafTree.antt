@@ -151,6 +151,7 @@ module _ (W : Width) (facts : WidthFacts W) (d : ℕ) (rs : List Row) (k : Build
 
     pub drawable : T (isDrawable W (builtFrom W d rs))
     drawable =
-        let weighs = subst (λ (z : ℤ). T (isSame z (resultAt t (leafRow t) .best))) (sym members-weight) (isSame-refl (resultAt t (leafRow t) .best)) in
+        let best = resultAt t (leafRow t) .best in
+        let weighs = subst (λ (z : ℤ). T (isSame z best)) (sym members-weight) (isSame-refl best) in
         and-T (areScored t && weighsBest t) (isTree (W .taxa) d (leafSet t) (membersOf t))
         (and-T (areScored t) (weighsBest t) members-scored weighs) (true-T members-tree)

@@ -1,5 +1,5 @@
--- What drawing a set of clusters rests on: the facts of a tree on C, its degree left aside. Laws: `proofs/Nests.antt`; that trees have them:
--- `proofs/Theorems.antt`.
+-- What drawing a set of clusters rests on: the facts of a tree on C, its degree left aside. Laws: `proofs/Nests.antt`; that trees have
+-- them: `proofs/Theorems.antt`.
 --     Nests xs        clusters that nest, none twice, with the single taxa of each
 --     TreeOn xs C     and they have the top C
 -- Assumes nothing.

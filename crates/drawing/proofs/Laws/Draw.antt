@@ -20,7 +20,7 @@ use Rattle.cluster.specs.declared.refusal.Answer.{Answer}
 use Rattle.cluster.specs.declared.refusal.Answer.the-variants.{Done, Refused}
 use Rattle.cluster.specs.declared.refusal.Refusal.{Refusal}
 use Rattle.cluster.specs.Reasons.{firstReason}
-use Rattle.cluster.specs.Outcome.{Outcome, outcomeOf, ended, written}
+use Rattle.cluster.specs.Outcome.{outcomeOf, ended, written}
 use Rattle.cluster.proofs.Laws.Outcome.{outcome-only, ended-refused, ended-done, written-refused, written-passed}
 use Rattle.shapes.specs.Nests.{TreeOn}
 use Rattle.texts.specs.declared.text.Text.{Text}

@@ -1,5 +1,5 @@
 -- `drawing::drawing::text` meets its contract: why nothing is drawn, or the text put into the room. Assumes nothing.
-use mathlib.Core.Path.{_≡_, ap, _∙_}
+use mathlib.Core.Path.{ap, _∙_}
 use mathlib.Core.List.{List, []}
 use Prim.Native.Nat.{ℕ}
 use borrow.Author.Needs.{needs}

@@ -1,14 +1,12 @@
 -- `drawing::writing::add_part` meets its contract. The invariant is `Writing`: what is written and what is left to write is the whole.
 -- The measure is what is left of the part as a number, and of a call the part itself: a child is a smaller number. Assumes nothing.
-use mathlib.Core.Path.{_≡_, refl, sym, ap, _∙_}
-use mathlib.Core.Bool.{false}
+use mathlib.Core.Path.{refl, sym, ap, _∙_}
 use Prim.Native.Nat.{ℕ, _<_}
 use native.Mathlib.Omega.{arith}
 use borrow.Fn.Kinds.{In}
 use borrow.Fn.PlainCycle.{Measures, is, falls, and}
 use Rattle.cluster.proofs.is_single.Reads as is-single-reads
 use Rattle.cluster.proofs.lowest.Reads as lowest-reads
-use Rattle.laws.specs.Cluster.{single}
 use Rattle.texts.specs.Text.{withBytes}
 use Rattle.texts.proofs.add.Reads as add-reads
 use Rattle.texts.proofs.add_decimal.Reads as add-decimal-reads
