@@ -41,11 +41,10 @@ use Rattle.lists.specs.declared.listing.Listing.{Listing}
 use Rattle.lists.specs.Records.{recordsIn, listedAt, rowsOf}
 use Rattle.lists.specs.Listing.{Listed, listed, listingOf, listReasons, readList}
 use Rattle.lists.specs.Accepted.{Bytes, Accepted, Holds}
-use Rattle.lists.proofs.Laws.Insert.{falling-only}
 use Rattle.lists.proofs.Laws.Listing.{readList-is, ended-by}
 use Rattle.lists.proofs.Laws.Reasons.{empty-iff, long-iff, cut-iff, kept-iff, once-iff}
 use Rattle.lists.proofs.Laws.Records.{new-iff, row-iff, row-rules, row-facts}
-use Rattle.lists.proofs.Laws.Rows.{rows-length, rows-fall}
+use Rattle.lists.proofs.Laws.Rows.{rows-length, rows-fall, falling-only}
 
 module _ (W : Width) (l : List ℕ) where
   -- ---- which lists are taken
@@ -148,7 +147,7 @@ module _ (W : Width) (l m : List ℕ) (a : Accepted W l) (b : Accepted W m) (the
   falls x k = rows-fall (listedAt W x) (recordsIn W x) (λ i h. new-iff W x i .1 (k .once i h))
 
   pub rows-of-records : rowsOf W l ≡ rowsOf W m
-  rows-of-records = falling-only (rowsOf W l) (rowsOf W m) (falls l a) (falls m b) (moved l m there, moved m l back)
+  rows-of-records = falling-only (rowsOf W l) (rowsOf W m) (falls l a) (falls m b) (moved l m there) (moved m l back)
 
   pub read-of-records : readList W l ≡ readList W m
   read-of-records =
