@@ -1,6 +1,7 @@
 // Leaves on clusters and states: a cluster is a set of taxa, bit b being taxon b. Each is total on every value, 0 included, and has no
 // loop. Cites `specs/Cluster.antt` and `specs/State.antt` of the crate `laws`.
 //     is_inside     every taxon of the first is one of the second's
+//     is_strict     so, and they are not the same cluster
 //     is_apart      no taxon is in both
 //     size          the number of taxa
 //     is_single     exactly one taxon
@@ -8,7 +9,7 @@
 //     lowest        the smallest taxon
 //     is_scored     the state is that of a scored cluster
 ghost use mathlib.Core.Path.{_≡_};
-ghost use Rattle.laws.specs.Cluster.{inside, apart, single};
+ghost use Rattle.laws.specs.Cluster.{inside, strict, apart, single};
 ghost use Rattle.laws.specs.Cluster.{size as Cluster·size, highest as Cluster·highest, lowest as Cluster·lowest};
 ghost use Rattle.laws.specs.State.{scored};
 
@@ -23,6 +24,16 @@ pub fn is_inside(a: u64, b: u64) -> bool
     ensures { λ r. ⌜ r ≡ inside a b ⌝ }
 {
     a & b == a
+}
+
+// Whether `a` lies inside `b` and is another cluster.
+pub fn is_strict(a: u64, b: u64) -> bool
+    ensures { λ r. ⌜ r ≡ strict a b ⌝ }
+{
+    if a == b {
+        return false;
+    }
+    is_inside(a, b)
 }
 
 // Whether no taxon is in both.

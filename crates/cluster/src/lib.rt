@@ -1,12 +1,12 @@
 // Clusters and their records: the leaves that every crate above is built of, the twelve bytes of a record, and the refusals.
 // Nothing public has a `requires`, and each `ensures` is one equation to a definition of `specs/`.
-//     is_inside, is_apart, size, is_single, highest, lowest     a cluster as 64 bits
-//     is_scored                                                 a state
-//     Refusal, Answer, number_of                                what is sent back
-//     Record                                                    a record
-//     Rule, broken_rule, is_kept, is_score                      the record rules
-//     Reading, read_record, write_record                        twelve bytes to a record, and back
-//     RECORD_BYTES, WEIGHT_MAX                                  how many bytes a record has, and the largest weight
+//     is_inside, is_strict, is_apart, size, is_single, highest, lowest   a cluster as 64 bits
+//     is_scored                                                          a state
+//     Refusal, Answer, number_of                                         what is sent back
+//     Record                                                             a record
+//     Rule, broken_rule, is_kept, is_score                               the record rules
+//     Reading, read_record, write_record                                 twelve bytes to a record, and back
+//     RECORD_BYTES, WEIGHT_MAX                                           how many bytes a record has, and the largest weight
 mod bytes;
 mod leaves;
 mod reading;
@@ -20,6 +20,7 @@ pub use leaves::is_apart;
 pub use leaves::is_inside;
 pub use leaves::is_scored;
 pub use leaves::is_single;
+pub use leaves::is_strict;
 pub use leaves::lowest;
 pub use leaves::size;
 pub use reading::Reading;

@@ -1,11 +1,13 @@
 -- What stands in ascending places, the largest first: `downTo` of `specs/Lists.antt`.
 --     down-length, down-ext, down-map     how many; functions that agree below n; a function of each
 --     mem-down, down-mem         what stands there is what the places have
+--     elem-down-iff              a number is one of them, as a test
 --     falling-down, down-falling     the list falls exactly where later places have more
 --     every→down, down→every     what holds of all is what holds at each place
 --     down-passed, down-stopped     one step of a loop over the places from the last down, and its stop
 -- Assumes nothing.
 use mathlib.Core.Path.{_≡_, refl, sym, ap, ap₂, subst}
+use mathlib.Core.Logic.{_↔_}
 use mathlib.Core.Bool.{Bool, true, false}
 use mathlib.Core.List.{List, _∷_, map}
 use mathlib.Core.List.{List·Memᴰ as Mem, List·Memᴰ·head as here, List·Memᴰ·tail as there, List·Memᴰ·not-nil as mem-nil}
@@ -14,7 +16,8 @@ use native.Mathlib.Decide.{decLe}
 use native.Mathlib.Omega.{arith}
 use lib.Dec.{T}
 use lib.ListN.{length}
-use Rattle.laws.specs.Lists.{every, Falling, downTo}
+use Rattle.laws.specs.Lists.{every, elem, Falling, downTo}
+use Rattle.laws.proofs.Keep.{elem→, →elem}
 use Rattle.laws.proofs.Tests.{T-and, and-T}
 
 module _ {A : Type 0} where
@@ -66,6 +69,12 @@ module _ {A : Type 0} where
     pub down-stopped : (n : ℕ) → 0 < n → p (f (n - 1)) ≡ false → every p (downTo f n) ≡ false
     down-stopped zero h e = absurd (omega arith)
     down-stopped (suc n) h e = let a : suc n - 1 ≡ n = omega arith in rw (rw a at e)
+
+pub elem-down-iff : (f : ℕ → ℕ) (n c : ℕ) → T (elem c (downTo f n)) ↔ ((j : ℕ) × (j < n) × (c ≡ f j))
+elem-down-iff f n c = (
+  λ t. mem-down f n c (elem→ c (downTo f n) t),
+  λ q. →elem c (downTo f n) (subst (λ (x : ℕ). Mem x (downTo f n)) (sym (q .2)) (down-mem f n (q .0) (q .1))),
+)
 
 -- later places have more
 pub falling-down : (f : ℕ → ℕ) (n : ℕ) → Falling (downTo f n) → (j k : ℕ) → j < k → k < n → f j < f k

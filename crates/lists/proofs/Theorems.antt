@@ -5,7 +5,7 @@
 --     refuses-iff                   a refusal is sent back exactly when it is the first that applies
 --     empty-iff, long-iff, cut-iff, bad-iff, repeated-iff (Laws/Reasons.antt)     what each reason says in words
 --     read-accepted                 what is given then: the rows of the list
---     row-iff (Laws/Records.antt)   the rows of a list are its records
+--     row-iff, cluster-iff (Laws/Records.antt)     the rows of a list are its records, and their clusters those of its records
 --     rows-of-records, read-of-records     the order of records plays no part
 --     accepted-facts, accepted-rules, accepted-some, accepted-few     what is known of the rows of an accepted list
 --     written-accepted, written-rows (Laws/Written.antt)     rows in order, written one after the other, are an accepted list of these rows

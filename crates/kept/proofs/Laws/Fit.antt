@@ -6,8 +6,8 @@
 --     fit-rows                          where degree bound, number and clusters are right, the rows tell
 --     fit-falls, fit-each, entries-rising     a fit table by the entries of its rows
 -- Assumes nothing.
-use mathlib.Core.Path.{_≡_, refl, sym, ap, _∙_, subst}
-use mathlib.Core.Bool.{Bool, true, false, _&&_}
+use mathlib.Core.Path.{_≡_, refl, subst}
+use mathlib.Core.Bool.{Bool, true, false}
 use mathlib.Core.List.{List}
 use mathlib.Core.List.{List·Memᴰ as Mem}
 use Prim.Native.Nat.{ℕ, _-_, _^_, _≤_, _<_}

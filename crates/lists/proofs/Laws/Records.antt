@@ -1,7 +1,7 @@
 -- What the tests of a record say in words, and what is known of the rows of records that keep the rules and don't repeat.
 --     keeps-iff, breaks-iff     a record keeps the rules, or breaks them
 --     repeats-iff, new-iff      it has the cluster of an earlier record, or doesn't
---     row-iff                   the rows of a list are its records
+--     row-iff, cluster-iff      the rows of a list are its records, and their clusters those of its records
 --     cluster-small             a cluster is within the width
 --     row-rules, row-facts      rows of records that keep the rules and don't repeat
 -- Assumes nothing.
@@ -15,10 +15,9 @@ use borrow.Author.Tests.{not-false}
 use lib.Dec.{T}
 use lib.ListN.{drop}
 use Rattle.laws.specs.Limits.{Width, WidthFacts}
-use Rattle.laws.specs.Lists.{downTo}
+use Rattle.laws.specs.Lists.{elem}
 use Rattle.laws.specs.Row.{Row}
-use Rattle.laws.proofs.Down.{mem-down, down-mem}
-use Rattle.laws.proofs.Keep.{elem→, →elem}
+use Rattle.laws.proofs.Down.{elem-down-iff}
 use Rattle.laws.proofs.Tests.{T-true, T-false, true-T}
 use Rattle.cluster.specs.Record.{hasSpare}
 use Rattle.cluster.specs.Reading.{ruleOf}
@@ -26,11 +25,11 @@ use Rattle.cluster.specs.Rule.{isKept, keepsRules}
 use Rattle.cluster.proofs.Laws.Bytes.{numberAt-lt}
 use Rattle.cluster.proofs.Laws.Record.{taxa-bytes}
 use Rattle.cluster.proofs.Laws.Rule.{kept→keeps, keeps→kept, →rules}
-use Rattle.trees.specs.Rows.{RowFacts}
+use Rattle.trees.specs.Rows.{clustersOf, RowFacts}
 use Rattle.lists.specs.Records.{recordsIn, bytesAt, listedAt, rowsOf, breaks, repeats}
-use Rattle.lists.specs.Accepted.{Bytes, KeepsAt, Repeats}
+use Rattle.lists.specs.Accepted.{Bytes, KeepsAt, Repeats, HasCluster}
 use Rattle.lists.proofs.Laws.Bytes.{take-bytes, drop-bytes}
-use Rattle.lists.proofs.Laws.Rows.{rows-mem, rows-has, rows-fall}
+use Rattle.lists.proofs.Laws.Rows.{rows-mem, rows-has, elem-rows, rows-fall}
 
 -- ---- the tests of a record
 
@@ -54,15 +53,10 @@ module _ (W : Width) (l : List ℕ) (i : ℕ) where
       broken n true e = refl
       broken n false e = absurd (n (keeps-iff .0 e))
 
-  abbrev earlier : List ℕ
-  earlier = downTo (λ (j : ℕ). listedAt W l j .cluster) i
-
   pub repeats-iff : (repeats W l i ≡ true) ↔ Repeats W l i
-  repeats-iff = (
-    λ e. mem-down (λ (j : ℕ). listedAt W l j .cluster) i (r .cluster) (elem→ (r .cluster) earlier (true-T e)),
-    λ q. T-true (repeats W l i) (→elem (r .cluster) earlier
-        (subst (λ (c : ℕ). Mem c earlier) (sym (q .2)) (down-mem (λ (j : ℕ). listedAt W l j .cluster) i (q .0) (q .1)))),
-  )
+  repeats-iff =
+      let by = elem-down-iff (λ (j : ℕ). listedAt W l j .cluster) i (r .cluster) in
+      (λ e. by .0 (true-T e), λ q. T-true (repeats W l i) (by .1 q))
 
   pub new-iff : (repeats W l i ≡ false) ↔ (Repeats W l i → ⊥)
   new-iff = (
@@ -78,6 +72,12 @@ module _ (W : Width) (l : List ℕ) where
     rows-mem (listedAt W l) (recordsIn W l) r,
     λ q. subst (λ (x : Row). Mem x (rowsOf W l)) (sym (q .2)) (rows-has (listedAt W l) (recordsIn W l) (q .0) (q .1)),
   )
+
+  pub cluster-iff : (c : ℕ) → T (elem c (clustersOf (rowsOf W l))) ↔ HasCluster W l c
+  cluster-iff c =
+      let by = elem-down-iff (λ (j : ℕ). listedAt W l j .cluster) (recordsIn W l) c in
+      let same = elem-rows (listedAt W l) c (recordsIn W l) in
+      (λ t. by .0 (subst T same t), λ q. subst T (sym same) (by .1 q))
 
   module _ (facts : WidthFacts W) (byte : Bytes l) where
     pub cluster-small : (i : ℕ) → listedAt W l i .cluster < 2 ^ W .taxa

@@ -1,0 +1,139 @@
+-- What is drawn of a table, test by test, and what is known where something is drawn.
+--     hasTree→             there is a tree: the leaf set has a row, and its count isn't 0
+--     hasTree-no-row, hasTree-no-count, hasTree-count     whether there is one, in turn
+--     drawn-unfit, drawn-no-tree, drawn-marks, drawn-whole     what is drawn, by the tests in turn
+--     isSame-of            equal weights are the same; others aren't
+--     Drawable W t         what is known of a table of which something is drawn
+--     nothing-refused, drawable     nothing is refused exactly where it is so
+-- Assumes nothing.
+use mathlib.Core.Path.{_≡_, refl, sym, ap, ap₂, _∙_, subst}
+use mathlib.Core.Logic.{_≢_}
+use mathlib.Core.Bool.{Bool, true, false, not, _&&_, and-false}
+use mathlib.Core.Option.{Option, none, some}
+use mathlib.Core.List.{List, List·Memᴰ as Mem}
+use Prim.Native.Nat.{ℕ, _^_, _≤_, _<_}
+use native.Mathlib.Nat.{min-eq-left}
+use native.Mathlib.Omega.{arith}
+use borrow.Author.Tests.{eq-eqb, ne-eqb, lt-ltb, le-ltb}
+use lib.Dec.{T, eqb, ltb, ltb→lt, T-not, not-T}
+use lib.IntN.{ℤ}
+use lib.ListN.{length}
+use lib.Signed.{ltZ}
+use Rattle.laws.specs.Limits.{Width, rowCap}
+use Rattle.laws.specs.Lists.{Once}
+use Rattle.laws.proofs.Integers.{ltZ-irrefl, tri, Tri}
+use Rattle.laws.proofs.Tests.{T-and, and-T, T-true, T-false, true-T, neq→}
+use Rattle.cluster.specs.declared.refusal.Answer.the-variants.{Done, Refused}
+use Rattle.cluster.specs.declared.refusal.Refusal.{Refusal}
+use Rattle.cluster.specs.declared.refusal.Refusal.the-variants.{NoTree, Unfit}
+use Rattle.trees.specs.Tree.{isTree}
+use Rattle.kept.specs.declared.table.Table.{Table}
+use Rattle.kept.specs.View.{resultAt}
+use Rattle.kept.specs.Fit.{isFit}
+use Rattle.kept.specs.Rows.{shownRows, leafSet}
+use Rattle.members.specs.Marked.{markedTo, membersTo, membersIn, scoredTo, weightTo}
+use Rattle.cluster.specs.Outcome.{Outcome, outcomeOf, ended}
+use Rattle.cluster.specs.Reasons.{Reason, when, firstReason}
+use Rattle.members.specs.Draw.{leafRow, hasTree, membersOf, isSame, areScored, weighsBest, isDrawable, drawReasons}
+use Rattle.members.specs.Draw.{DrawnMembers, noMembers, drawnMembers, drawnTree}
+use Rattle.members.specs.Gathered.{Found}
+
+-- ---- whether there is a tree
+pub hasTree→ : (t : Table) → T (hasTree t) → (leafRow t < t .rows) × (resultAt t (leafRow t) .count ≢ 0)
+hasTree→ t h =
+    let q = T-and (ltb (leafRow t) (t .rows)) (not (eqb (resultAt t (leafRow t) .count) 0)) h in
+    (ltb→lt (leafRow t) (t .rows) (q .0), neq→ (resultAt t (leafRow t) .count) 0 (q .1))
+
+module _ (t : Table) (i : ℕ) (e : i ≡ leafRow t) where
+  abbrev hasCount : ℕ → Bool
+  hasCount k = ltb k (t .rows) && not (eqb (resultAt t k .count) 0)
+
+  hasTree-at : hasTree t ≡ hasCount i
+  hasTree-at = ap hasCount (sym e)
+
+  pub hasTree-no-row : t .rows ≤ i → hasTree t ≡ false
+  hasTree-no-row h = hasTree-at ∙ ap (λ (b : Bool). b && not (eqb (resultAt t i .count) 0)) (le-ltb i (t .rows) h)
+
+  pub hasTree-no-count : resultAt t i .count ≡ 0 → hasTree t ≡ false
+  hasTree-no-count h = hasTree-at ∙ ap (λ (b : Bool). ltb i (t .rows) && not b) (eq-eqb _ _ h) ∙ and-false (ltb i (t .rows))
+
+  pub hasTree-count : i < t .rows → resultAt t i .count ≢ 0 → hasTree t ≡ true
+  hasTree-count h k = hasTree-at ∙ ap₂ (λ (a b : Bool). a && not b) (lt-ltb i (t .rows) h) (ne-eqb _ _ k)
+
+-- ---- what is drawn, by the tests in turn
+module _ (W : Width) (t : Table) where
+  drawn-by : {f : Option Refusal} → firstReason (drawReasons W t) ≡ f → drawnTree W t ≡ ended f noMembers 0 (drawnMembers t)
+  unfolding drawnTree
+  drawn-by e = ap (λ (f : Option Refusal). ended f noMembers 0 (drawnMembers t)) e
+
+  pub drawn-unfit : isFit W t ≡ false → drawnTree W t ≡ outcomeOf (Refused Unfit) noMembers
+  drawn-unfit e = drawn-by {f = some Unfit} (rw e)
+
+  pub drawn-no-tree : isFit W t ≡ true → hasTree t ≡ false → drawnTree W t ≡ outcomeOf (Refused NoTree) noMembers
+  drawn-no-tree e f = drawn-by {f = some NoTree} (rw (e, f))
+
+  pub drawn-marks : isFit W t ≡ true → hasTree t ≡ true → isDrawable W t ≡ false → drawnTree W t ≡ outcomeOf (Refused Unfit) noMembers
+  drawn-marks e f g = drawn-by {f = some Unfit} (rw (e, f, g))
+
+  pub nothing-refused : isFit W t ≡ true → hasTree t ≡ true → isDrawable W t ≡ true → firstReason (drawReasons W t) ≡ none
+  nothing-refused e f g = rw (e, f, g)
+
+  pub drawn-whole : isFit W t ≡ true → hasTree t ≡ true → isDrawable W t ≡ true → drawnTree W t ≡ outcomeOf (Done 0) (drawnMembers t)
+  drawn-whole e f g = drawn-by (nothing-refused e f g)
+
+-- ---- weights that are the same
+pub isSame-refl : (a : ℤ) → T (isSame a a)
+isSame-refl a = and-T (not (ltZ a a)) (not (ltZ a a)) (not-T (ltZ a a) (ltZ-irrefl a)) (not-T (ltZ a a) (ltZ-irrefl a))
+
+pub isSame→ : (a b : ℤ) → T (isSame a b) → a ≡ b
+isSame→ a b h = go (tri a b) (T-and (not (ltZ a b)) (not (ltZ b a)) h)
+  where
+    go : Tri a b → T (not (ltZ a b)) × T (not (ltZ b a)) → a ≡ b
+    go (Tri.less k) q = absurd (T-not (ltZ a b) (q .0) k)
+    go (Tri.same e) q = e
+    go (Tri.more k) q = absurd (T-not (ltZ b a) (q .1) k)
+
+-- ---- the tests of the marks, made of the leaf set's row
+module _ {W : Width} {t : Table} {c i : ℕ} (f : Found W t c i) where
+  abbrev marks : ℕ
+  marks = resultAt t i .members
+
+  abbrev members : List ℕ
+  members = membersTo (t .clusters) marks (t .rows)
+
+  abbrev drawableAt : ℕ → ℕ → ℕ → Bool
+  drawableAt k n C =
+      let m = resultAt t k .members in
+      scoredTo (t .states) m n
+      && isSame (weightTo (t .weights) m n) (resultAt t k .best)
+      && isTree (W .taxa) (t .degree) C (membersTo (t .clusters) m n)
+
+  abbrev membersAt : ℕ → ℕ → DrawnMembers
+  membersAt k n =
+      let rows = markedTo (resultAt t k .members) n in record { row = k; clusters = membersIn (t .clusters) rows; size = length rows }
+
+  drawable-at : isDrawable W t ≡ drawableAt i (t .rows) c
+  drawable-at = λ j. drawableAt (sym (f .row) j) (min-eq-left (f .capped) j) (sym (f .top) j)
+
+  refused : drawableAt i (t .rows) c ≡ false → outcomeOf (Refused Unfit) noMembers ≡ drawnTree W t
+  refused h = sym (drawn-marks W t (f .fit) (f .tree) (drawable-at ∙ h))
+
+  pub found-unscored : scoredTo (t .states) marks (t .rows) ≡ false → outcomeOf (Refused Unfit) noMembers ≡ drawnTree W t
+  found-unscored h = refused (rw h)
+
+  module _ (a : scoredTo (t .states) marks (t .rows) ≡ true) where
+    pub found-other : weightTo (t .weights) marks (t .rows) ≢ resultAt t i .best → outcomeOf (Refused Unfit) noMembers ≡ drawnTree W t
+    found-other h = refused (rw (a, T-false (isSame (weightTo (t .weights) marks (t .rows)) (resultAt t i .best)) (λ k. h (isSame→ _ _ k))))
+
+    module _ (b : weightTo (t .weights) marks (t .rows) ≡ resultAt t i .best) where
+      tests-are : drawableAt i (t .rows) c ≡ isTree (W .taxa) (t .degree) c members
+      tests-are = rw (a, b, T-true (isSame (resultAt t i .best) (resultAt t i .best)) (isSame-refl (resultAt t i .best)))
+
+      pub found-no-tree : isTree (W .taxa) (t .degree) c members ≡ false → outcomeOf (Refused Unfit) noMembers ≡ drawnTree W t
+      found-no-tree h = refused (tests-are ∙ h)
+
+      pub found-tree : isTree (W .taxa) (t .degree) c members ≡ true
+          → outcomeOf (Done 0) (membersAt i (t .rows)) ≡ drawnTree W t
+      found-tree h =
+          sym (drawn-whole W t (f .fit) (f .tree) (drawable-at ∙ tests-are ∙ h)
+          ∙ λ j. outcomeOf (Done 0) (membersAt (sym (f .row) j) (min-eq-left (f .capped) j)))

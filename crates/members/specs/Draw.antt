@@ -1,0 +1,85 @@
+-- What is drawn of a table: the members of the leaf set's row, or why none are (document 01, "What is sent back" and "Drawing it"). Laws:
+-- `proofs/Laws/Draw.antt`.
+--     leafRow t            the row of the leaf set: the number of rows where it has none
+--     hasTree t            the leaf set has a row, and its count isn't zero
+--     leafMarks t          the marks of that row
+--     markedRows t         the rows marked in it, the last first
+--     membersOf t          their clusters, ascending
+--     areScored t          each of them is scored
+--     weighsBest t         their weights add up to the row's best: neither is less than the other
+--     isDrawable W t       both, and they are a tree on the leaf set
+--     drawReasons W t      why nothing is drawn: 8 (fitness), 7, 8 (marks) in that order
+--     DrawnMembers         the leaf set's row, its members ascending in an array, zero past them, and how many they are
+--     noMembers            nothing drawn: all zero
+--     drawnMembers t       the members of the leaf set's row so
+--     drawnTree W t        what is drawn; a success tells nothing
+--     drawnOf r            the code's value as an outcome
+-- Assumes nothing.
+use mathlib.Core.Bool.{Bool, not, _&&_}
+use mathlib.Core.List.{List, [], _∷_}
+use Prim.Native.Nat.{ℕ}
+use lib.Dec.{eqb, ltb}
+use lib.IntN.{ℤ}
+use lib.ListN.{length}
+use lib.Signed.{ltZ}
+use Rattle.laws.specs.Limits.{Width}
+use Rattle.cluster.specs.declared.refusal.Refusal.the-variants.{NoTree, Unfit}
+use Rattle.trees.specs.Tree.{isTree}
+use Rattle.kept.specs.declared.table.Table.{Table}
+use Rattle.kept.specs.View.{resultAt}
+use Rattle.kept.specs.Fit.{isFit}
+use Rattle.kept.specs.Rows.{shownRows, placeOf, leafSet}
+use Rattle.members.specs.declared.draw.Drawn.{Drawn}
+use Rattle.members.specs.Marked.{markedTo, membersTo, membersIn, scoredTo, weightTo}
+use Rattle.cluster.specs.Outcome.{Outcome, outcomeOf, ended}
+use Rattle.cluster.specs.Reasons.{Reason, when, firstReason}
+
+-- ---- the members of the leaf set's row
+abbrev pub leafRow : Table → ℕ
+leafRow t = placeOf t (leafSet t)
+
+abbrev pub hasTree : Table → Bool
+hasTree t = ltb (leafRow t) (t .rows) && not (eqb (resultAt t (leafRow t) .count) 0)
+
+abbrev pub leafMarks : Table → ℕ
+leafMarks t = resultAt t (leafRow t) .members
+
+abbrev pub markedRows : Table → List ℕ
+markedRows t = markedTo (leafMarks t) (shownRows t)
+
+abbrev pub membersOf : Table → List ℕ
+membersOf t = membersTo (t .clusters) (leafMarks t) (shownRows t)
+
+-- ---- whether they may be drawn
+abbrev pub areScored : Table → Bool
+areScored t = scoredTo (t .states) (leafMarks t) (shownRows t)
+
+abbrev pub isSame : ℤ → ℤ → Bool
+isSame a b = not (ltZ a b) && not (ltZ b a)
+
+abbrev pub weighsBest : Table → Bool
+weighsBest t = isSame (weightTo (t .weights) (leafMarks t) (shownRows t)) (resultAt t (leafRow t) .best)
+
+abbrev pub isDrawable : Width → Table → Bool
+isDrawable W t = areScored t && weighsBest t && isTree (W .taxa) (t .degree) (leafSet t) (membersOf t)
+
+abbrev pub drawReasons : Width → Table → List Reason
+drawReasons W t = when (not (isFit W t)) Unfit ∷ when (not (hasTree t)) NoTree ∷ when (not (isDrawable W t)) Unfit ∷ []
+
+-- ---- what is drawn
+pub record DrawnMembers : Type 0 where
+  pub row : ℕ
+  pub clusters : List ℕ
+  pub size : ℕ
+
+abbrev pub noMembers : DrawnMembers
+noMembers = record { row = 0; clusters = membersIn [] []; size = 0 }
+
+abbrev pub drawnMembers : Table → DrawnMembers
+drawnMembers t = record { row = leafRow t; clusters = membersIn (t .clusters) (markedRows t); size = length (markedRows t) }
+
+unfoldable pub drawnTree : Width → Table → Outcome DrawnMembers
+drawnTree W t = ended (firstReason (drawReasons W t)) noMembers 0 (drawnMembers t)
+
+abbrev pub drawnOf : Drawn → Outcome DrawnMembers
+drawnOf r = outcomeOf (r .answer) (record { row = r .row; clusters = r .clusters; size = r .size })
