@@ -22,7 +22,7 @@ use Rattle.trees.specs.Kind.{countKind, solKind, Res}
 use Rattle.trees.specs.Cover.{isCover, coversOf}
 use Rattle.trees.proofs.Searching.Covers.{cover→, takeIf, chosen, chosen-is}
 use Rattle.trees.proofs.Formula.Kind.{hom-second}
-use Rattle.table.specs.Searched.{sumKind, sumCovers}
+use Rattle.table.specs.Columns.{sumKind, sumCovers}
 use Rattle.table.proofs.Tuples.Searched.{sumCovers-over}
 use Rattle.table.proofs.Tallies.Held.{Keeps, Part, sum-keeps, sum-count}
 

@@ -40,7 +40,7 @@ use Rattle.trees.proofs.Sets.Families.{Fam, join, empty, Disj}
 use Rattle.trees.proofs.Formula.Kind.{Hom}
 use Rattle.trees.proofs.Counting.Capped.{Counted}
 use Rattle.trees.proofs.Ties.Marks.{marks-none, marks-join}
-use Rattle.table.specs.Searched.{sumKind}
+use Rattle.table.specs.Columns.{sumKind}
 
 pub record Held (cs : List ℕ) (b m R : ℕ) (x : Sol) : Type 0 where
   pub counted : 1 ≤ x .0

@@ -59,7 +59,7 @@ words-fit cs S U h d =
 
 -- ---- weights
 
-pub light-fits : (R : ℕ) (y z : ℤ) → R < wordValues → natAbs y + natAbs z ≤ 2 * weightMax * size R → SFits w64 (y +ℤ z)
+pub light-fits : (R : ℕ) (y z : ℤ) → R < wordValues → natAbs y + natAbs z ≤ 3 * weightMax * size R → SFits w64 (y +ℤ z)
 light-fits R y z h l = record { sfits = omega (arith, mag-le-abs (y +ℤ z), abs-sum-le y z, ones-le 64 R h) }
 
 best-le : (cs : List ℕ) (b m R limit n : ℕ) (u : Option Sol) → Keeps cs b m R u
