@@ -40,7 +40,7 @@ use Rattle.trees.specs.Rows.{clustersOf, RowFacts}
 use Rattle.lists.specs.declared.listing.Listing.{Listing}
 use Rattle.lists.specs.Records.{recordsIn, listedAt, rowsOf}
 use Rattle.lists.specs.Listing.{Listed, listed, listingOf, listReasons, readList}
-use Rattle.lists.specs.Accepted.{Bytes, Accepted, Holds}
+use Rattle.lists.specs.Accepted.{Bytes, Accepted, RecordsAmong}
 use Rattle.lists.proofs.Laws.Listing.{readList-is, ended-by}
 use Rattle.lists.proofs.Laws.Reasons.{empty-iff, long-iff, cut-iff, kept-iff, once-iff}
 use Rattle.lists.proofs.Laws.Records.{new-iff, row-iff, row-rules, row-facts}
@@ -136,8 +136,8 @@ module _ (W : Width) (l : List ℕ) where
 
 -- ---- the order of records plays no part
 
-module _ (W : Width) (l m : List ℕ) (a : Accepted W l) (b : Accepted W m) (there : Holds W l m) (back : Holds W m l) where
-  moved : (x y : List ℕ) → Holds W x y → (r : Row) → Mem r (rowsOf W x) → Mem r (rowsOf W y)
+module _ (W : Width) (l m : List ℕ) (a : Accepted W l) (b : Accepted W m) (there : RecordsAmong W l m) (back : RecordsAmong W m l) where
+  moved : (x y : List ℕ) → RecordsAmong W x y → (r : Row) → Mem r (rowsOf W x) → Mem r (rowsOf W y)
   moved x y h r k =
       let q = row-iff W x r .0 k in
       let p = h (q .0) (q .1) in

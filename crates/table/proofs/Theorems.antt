@@ -44,7 +44,7 @@ use Rattle.cluster.specs.Refusal.{sentOf}
 use Rattle.cluster.specs.Rule.{isScore}
 use Rattle.cluster.proofs.Laws.Outcome.{outcome-only, accepts-iff, refuses-iff}
 use Rattle.cluster.proofs.Laws.Reasons.{none-iff}
-use Rattle.lists.specs.Accepted.{Bytes, Accepted, HasCluster, Holds}
+use Rattle.lists.specs.Accepted.{Bytes, Accepted, HasCluster, RecordsAmong}
 use Rattle.lists.specs.Records.{recordsIn, listedAt, rowsOf}
 use Rattle.lists.proofs.Laws.Rows.{elem-rows}
 use Rattle.lists.proofs.Theorems.{accepted-iff, accepted-facts, rows-of-records}
@@ -104,7 +104,7 @@ module _ (W : Width) (l : List ℕ) (d : ℕ) where
       rw (built-table degree a) (built-fit W facts d (rowsOf W l) (buildable facts degree byte a))
 
 -- the order of records plays no part
-pub build-of-records : (W : Width) (l m : List ℕ) (d : ℕ) → T (isDegree d) → Accepted W l → Accepted W m → Holds W l m → Holds W m l
+pub build-of-records : (W : Width) (l m : List ℕ) (d : ℕ) → T (isDegree d) → Accepted W l → Accepted W m → RecordsAmong W l m → RecordsAmong W m l
     → buildTable W l d ≡ buildTable W m d
 build-of-records W l m d degree a b there back =
     build-done W l d degree a
