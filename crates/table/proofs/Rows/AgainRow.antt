@@ -121,7 +121,8 @@ module _ {W : Width} (facts : WidthFacts W) {given : Table} {c : ℕ} (w : Worka
       small = clusters-same (λ (l : List ℕ). getD l i 0 < wordValues) (cluster-word facts w i h);
       low = w .low;
       high = w .high;
-      light = subst (λ (l : List ℤ). natAbs (getD l i (pos 0)) ≤ weightMax) (sym (p .weights)) (given-rules facts w i h .1 .score .in-range);
+      light = subst (λ (l : List ℤ). natAbs (getD l i (pos 0)) ≤ weightMax) (sym (p .weights))
+          (given-rules facts w i h .1 .score .in-range);
     }
 
     pub weight-at : i < given .rows → SFits w32 (getD (t .weights) i (pos 0))

@@ -24,7 +24,8 @@ use Rattle.table.specs.declared.tally.Count.{Count}
 use Rattle.table.specs.declared.tally.Tally.{Tally}
 use Rattle.table.specs.Tally.{tallyWith, tallyOf}
 use Rattle.table.specs.Columns.{sumKind}
-use Rattle.table.specs.Sums.{noTally, exactCount, cappedSum, cappedProduct, isLarger, isBefore, keepsFirst, withTuples, withCount, plusTally, underTally}
+use Rattle.table.specs.Sums.{noTally, exactCount, cappedSum, cappedProduct, isLarger, isBefore, keepsFirst}
+use Rattle.table.specs.Sums.{withTuples, withCount, plusTally, underTally}
 use Rattle.table.proofs.Tallies.Tally.{cappedProduct-none-l, cappedProduct-none-r}
 use Rattle.table.proofs.Tallies.Tally.{isLarger-high, isLarger-low}
 use Rattle.table.proofs.Tallies.Tally.{isBefore-by, keepsFirst-none-r, keepsFirst-none-l, keepsFirst-both}
