@@ -21,9 +21,10 @@ use native.Mathlib.Nat.{div-add-mod, mul-zero, mul-comm, le-of-mul-le-mul-left}
 use native.Mathlib.Omega.{arith}
 use lib.Dec.{T, eqb, ltb, eqb→eq}
 use lib.ListN.{length}
-use Rattle.laws.specs.Limits.{Width, WidthFacts}
+use Rattle.laws.specs.Limits.{Width}
 use Rattle.laws.specs.Lists.{Falling}
 use Rattle.laws.specs.Row.{Row}
+use Rattle.laws.specs.Widths.{WidthFacts}
 use Rattle.laws.proofs.Tests.{T-of-not}
 use Rattle.cluster.specs.declared.refusal.Answer.{Answer}
 use Rattle.cluster.specs.declared.refusal.Answer.the-variants.{Done, Refused}

@@ -17,10 +17,11 @@ use native.Mathlib.Nat.{min-le-left, lt-of-lt-of-le}
 use lib.Dec.{T}
 use lib.IntN.{ℤ, pos, _+ℤ_}
 use lib.ListN.{getD}
-use Rattle.laws.specs.Limits.{Width, WidthFacts, rowCap}
+use Rattle.laws.specs.Limits.{Width, rowCap}
 use Rattle.laws.specs.Lists.{keepIf, keep, Once, Falling, downTo, places}
 use Rattle.laws.specs.Row.{Row, isScored}
 use Rattle.laws.specs.State.{scored}
+use Rattle.laws.specs.Widths.{WidthFacts}
 use Rattle.laws.proofs.Appended.{map-through, once-reverse}
 use Rattle.laws.proofs.Down.{mem-down, down-map}
 use Rattle.laws.proofs.Falling.{falling-once}
