@@ -54,6 +54,6 @@ print-line-spec =
     array-share-prefix-room
     slice-aggregate-write-all
     write-all-requires
-    enum-told
     returns
+    enum-told
     returns-2)
