@@ -10,7 +10,7 @@ ghost use mir.Syntax.{w64};
 ghost use mir.Val.{ofZ};
 ghost use Rattle.laws.specs.Limits.{rowCap};
 ghost use Rattle.table.specs.Build.{buildTable};
-ghost use Rattle.calls.specs.Digest.{rowDigest, results, Long, digestTo, digest, rescoredTimes};
+ghost use Rattle.digests.specs.Digest.{rowDigest, results, Long, digestTo, digest, rescoredTimes};
 
 // The last number of 64 bits, which stands for -1.
 const MINUS_ONE: u64 = 18446744073709551615;
@@ -92,11 +92,11 @@ pub extern "C" fn ladlepine_rescore(
 {
     let built = build(list, degree);
     let mut t = built.table;
-    let mut i = 0;
-    while i < times {
+    let mut done = 0;
+    while done < times {
         let changed = rescore(t, cluster, weight, state);
         t = changed.table;
-        i += 1;
+        done += 1;
     }
     digest_of(
         &t.lengths,

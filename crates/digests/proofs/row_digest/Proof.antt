@@ -1,12 +1,12 @@
--- `calls::row_digest` meets its contract: each sum is one `wrap` of the definition. Assumes nothing.
+-- `digests::row_digest` meets its contract: each sum is one `wrap` of the definition. Assumes nothing.
 use mathlib.Core.Path.{ap, ap₂, _∙_}
 use borrow.Author.Needs.{needs}
 use mir.Facts.{toZ-ofZ}
 use mir.Syntax.{w64}
 use mir.Val.{SFits, ofZ}
-use Rattle.calls.specs.Digest.{wrap}
-use Rattle.calls.proofs.row_digest.Statement.{statement}
-use Rattle.calls.proofs.row_digest.Tie as tie
+use Rattle.digests.specs.Digest.{wrap}
+use Rattle.digests.proofs.row_digest.Statement.{statement}
+use Rattle.digests.proofs.row_digest.Tie as tie
 
 best-fits : (s : tie.Start) → SFits w64 (s .args .best)
 best-fits s = s .fits .best

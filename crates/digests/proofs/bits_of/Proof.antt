@@ -1,10 +1,10 @@
--- `calls::bits_of` meets its contract: a number that isn't negative is its own bits, and a negative one is flipped and its
+-- `digests::bits_of` meets its contract: a number that isn't negative is its own bits, and a negative one is flipped and its
 -- bits are flipped back. Assumes nothing.
 use mathlib.Core.Path.{refl}
 use mir.Syntax.{w64}
 use Rattle.laws.proofs.Signed.{whole-fits, whole-bits, flip-fits, flip-whole, flip-below, flip-bits}
-use Rattle.calls.proofs.bits_of.Statement.{statement}
-use Rattle.calls.proofs.bits_of.Tie as tie
+use Rattle.digests.proofs.bits_of.Statement.{statement}
+use Rattle.digests.proofs.bits_of.Tie as tie
 
 cast-result : tie.Need-cast-result
 cast-result c = whole-fits w64 _ (c .before .fits .z) (c .if1 .taken)

@@ -1,4 +1,4 @@
--- `calls::digest_of` meets its contract. The invariant: `sum` is the digest of the first i rows, and i is at most the room. The measure
+-- `digests::digest_of` meets its contract. The invariant: `sum` is the digest of the first i rows, and i is at most the room. The measure
 -- is the rows left. Assumes nothing.
 use mathlib.Core.Path.{_≡_, sym, ap, _∙_}
 use Prim.Native.Nat.{_-_, _≤_}
@@ -10,10 +10,10 @@ use mir.Facts.{toZ-ofZ}
 use mir.Syntax.{w64}
 use mir.Val.{SFits}
 use Rattle.laws.specs.Limits.{rowCap}
-use Rattle.calls.specs.Digest.{Results, results, digestTo}
-use Rattle.calls.proofs.Laws.Digest.{digestTo-none, digestTo-more}
-use Rattle.calls.proofs.digest_of.Statement.{statement}
-use Rattle.calls.proofs.digest_of.Tie as tie
+use Rattle.digests.specs.Digest.{Results, results, digestTo}
+use Rattle.digests.proofs.Laws.Digest.{digestTo-none, digestTo-more}
+use Rattle.digests.proofs.digest_of.Statement.{statement}
+use Rattle.digests.proofs.digest_of.Tie as tie
 
 abbrev Inv-loop : tie.InvT-loop
 Inv-loop lengths counts marks bests lows highs sum₀ i₀ sum i =

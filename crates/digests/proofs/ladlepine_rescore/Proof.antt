@@ -1,5 +1,5 @@
--- `calls::ladlepine_rescore` meets its contract. The invariant: the table is the built one after i rescorings, and i is at most `times`.
--- The measure is the rescorings left. Assumes nothing.
+-- `digests::ladlepine_rescore` meets its contract. The invariant: the table is the built one after `done` rescorings, at most
+-- `times`. The measure is the rescorings left. Assumes nothing.
 use mathlib.Core.Path.{_≡_, sym, ap, _∙_}
 use Prim.Native.Nat.{_-_, _≤_}
 use native.Mathlib.Omega.{arith}
@@ -7,16 +7,17 @@ use borrow.Author.Needs.{needs}
 use mir.Facts.{toZ-ofZ}
 use mir.Syntax.{w32}
 use mir.Val.{SFits, toZ}
-use Rattle.calls.specs.Digest.{digest, rescoredTimes}
-use Rattle.calls.proofs.Laws.Digest.{rescoredTimes-none, rescored-more, rescored-end}
-use Rattle.calls.proofs.ladlepine_rescore.Statement.{statement}
-use Rattle.calls.proofs.ladlepine_rescore.Tie as tie
+use Rattle.digests.specs.Digest.{digest, rescoredTimes}
+use Rattle.digests.proofs.Laws.Digest.{rescoredTimes-none, rescored-more, rescored-end}
+use Rattle.digests.proofs.ladlepine_rescore.Statement.{statement}
+use Rattle.digests.proofs.ladlepine_rescore.Tie as tie
 
 abbrev Inv-loop : tie.InvT-loop
-Inv-loop list degree cluster weight state times t₀ i₀ t i = (i ≤ times) × (t ≡ rescoredTimes i cluster (toZ w32 weight) state t₀)
+Inv-loop list degree cluster weight state times t₀ done₀ t done =
+    (done ≤ times) × (t ≡ rescoredTimes done cluster (toZ w32 weight) state t₀)
 
 abbrev μ-loop : tie.MeasureT-loop
-μ-loop list degree cluster weight state times t₀ i₀ t i = times - i
+μ-loop list degree cluster weight state times t₀ done₀ t done = times - done
 
 -- the loop's end, from where the digest is known
 abbrev ended : tie.After-digest-of Inv-loop μ-loop → tie.After-loop Inv-loop μ-loop
@@ -40,7 +41,7 @@ loop-again : tie.Need-loop-again Inv-loop μ-loop
 loop-again c =
     let at-loop = c .before .before .before in
     let changed = c .before .rescore in
-    (omega arith, rescored-more _ _ _ _ (at-loop .loop .i) (at-loop .loop .t) (changed .result) (at-loop .loop .inv .1) (changed .ensures))
+    (omega arith, rescored-more _ _ _ _ (at-loop .loop .done) (at-loop .loop .t) (changed .result) (at-loop .loop .inv .1) (changed .ensures))
 
 returns : tie.Need-returns Inv-loop μ-loop
 returns c =
@@ -48,7 +49,7 @@ returns c =
     let build = at-loop .before .before in
     let start = build .before .before in
     let a = start .args in
-    let end : at-loop .loop .i ≡ a .times = omega (arith, ended c .loop-test .left, at-loop .loop .inv .0) in
+    let end : at-loop .loop .done ≡ a .times = omega (arith, ended c .loop-test .left, at-loop .loop .inv .0) in
     let score = toZ-ofZ (weight-fits start) in
     let built = build .build in
     _∙_ {b = digest (at-loop .loop .t)} (c .digest-of .ensures)

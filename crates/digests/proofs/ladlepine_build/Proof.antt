@@ -1,10 +1,10 @@
--- `calls::ladlepine_build` meets its contract: the digest of the table of the build's promise. Assumes nothing.
+-- `digests::ladlepine_build` meets its contract: the digest of the table of the build's promise. Assumes nothing.
 use mathlib.Core.Path.{ap, _∙_}
 use borrow.Author.Needs.{needs}
 use Rattle.table.specs.Build.{Making}
-use Rattle.calls.specs.Digest.{digest}
-use Rattle.calls.proofs.ladlepine_build.Statement.{statement}
-use Rattle.calls.proofs.ladlepine_build.Tie as tie
+use Rattle.digests.specs.Digest.{digest}
+use Rattle.digests.proofs.ladlepine_build.Statement.{statement}
+use Rattle.digests.proofs.ladlepine_build.Tie as tie
 
 returns : tie.Need-returns
 returns c =

@@ -13,7 +13,7 @@ use Rattle.table.specs.declared.making.Built.{Built}
 use Rattle.table.specs.declared.rescoring.Rescored.{Rescored}
 use Rattle.table.specs.Build.{Making, makingOf}
 use Rattle.table.specs.Rescore.{Changing, changingOf, rescoreTable}
-use Rattle.calls.specs.Digest.{wrap, rowDigest, Results, digestTo, rescoredTimes}
+use Rattle.digests.specs.Digest.{wrap, rowDigest, Results, digestTo, rescoredTimes}
 
 module _ (k : Results) where
   pub digestTo-none : digestTo k 0 ≡ 0
