@@ -14,7 +14,7 @@ use lib.ListN.{length, getD}
 use mir.Syntax.{w64}
 use mir.Val.{ofZ}
 use Rattle.kept.specs.declared.table.Table.{Table}
-use Rattle.laws.specs.Limits.{rowCap, wordValues}
+use Rattle.laws.specs.Limits.{narrow, rowCap, wordValues}
 use Rattle.table.specs.Rescore.{rescoreTable}
 
 abbrev pub wrap : ℕ → ℕ → ℕ
@@ -61,4 +61,4 @@ digest t = digestTo (resultsOf t) rowCap
 
 unfoldable pub rescoredTimes : ℕ → ℕ → ℤ → ℕ → Table → Table
 rescoredTimes zero c z s t = t
-rescoredTimes (suc n) c z s t = rescoreTable (rescoredTimes n c z s t) c z s .table
+rescoredTimes (suc n) c z s t = rescoreTable narrow (rescoredTimes n c z s t) c z s .given

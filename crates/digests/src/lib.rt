@@ -8,7 +8,7 @@ use table::rescore;
 ghost use mathlib.Core.Path.{_≡_};
 ghost use mir.Syntax.{w64};
 ghost use mir.Val.{ofZ};
-ghost use Rattle.laws.specs.Limits.{rowCap};
+ghost use Rattle.laws.specs.Limits.{narrow, rowCap};
 ghost use Rattle.table.specs.Build.{buildTable};
 ghost use Rattle.digests.specs.Digest.{rowDigest, results, Long, digestTo, digest, rescoredTimes};
 
@@ -65,7 +65,7 @@ fn digest_of<'a>(
 // The digest of the table that a build of `list` hands back.
 #[no_mangle]
 pub extern "C" fn ladlepine_build(list: &[u8], degree: u32) -> u64
-    ensures { λ r. ⌜ r ≡ digest (buildTable (now (list .entry)) degree .table) ⌝ }
+    ensures { λ r. ⌜ r ≡ digest (buildTable narrow (now (list .entry)) degree .given) ⌝ }
 {
     let built = build(list, degree);
     digest_of(
@@ -88,7 +88,7 @@ pub extern "C" fn ladlepine_rescore(
     state: u8,
     times: u32,
 ) -> u64
-    ensures { λ r. ⌜ r ≡ digest (rescoredTimes times cluster weight state (buildTable (now (list .entry)) degree .table)) ⌝ }
+    ensures { λ r. ⌜ r ≡ digest (rescoredTimes times cluster weight state (buildTable narrow (now (list .entry)) degree .given)) ⌝ }
 {
     let built = build(list, degree);
     let mut t = built.table;

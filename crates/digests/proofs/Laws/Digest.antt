@@ -8,11 +8,12 @@ use Prim.Native.Nat.{ℕ, _+_}
 use native.Mathlib.Numerals.{add-one}
 use lib.IntN.{ℤ, pos}
 use lib.ListN.{getD}
+use Rattle.laws.specs.Limits.{narrow}
+use Rattle.cluster.specs.Outcome.{Outcome, outcomeOf}
 use Rattle.kept.specs.declared.table.Table.{Table}
 use Rattle.table.specs.declared.making.Built.{Built}
 use Rattle.table.specs.declared.rescoring.Rescored.{Rescored}
-use Rattle.table.specs.Build.{Making, makingOf}
-use Rattle.table.specs.Rescore.{Changing, changingOf, rescoreTable}
+use Rattle.table.specs.Rescore.{rescoreTable}
 use Rattle.digests.specs.Digest.{wrap, rowDigest, Results, digestTo, rescoredTimes}
 
 module _ (k : Results) where
@@ -31,17 +32,17 @@ module _ (c : ℕ) (z : ℤ) (s : ℕ) (t : Table) where
   unfolding rescoredTimes
   rescoredTimes-none = refl
 
-  rescoredTimes-more : (n : ℕ) → rescoredTimes (n + 1) c z s t ≡ rescoreTable (rescoredTimes n c z s t) c z s .table
+  rescoredTimes-more : (n : ℕ) → rescoredTimes (n + 1) c z s t ≡ rescoreTable narrow (rescoredTimes n c z s t) c z s .given
   unfolding rescoredTimes
   rescoredTimes-more n = rw (add-one n)
 
-  pub rescored-more : (n : ℕ) (u : Table) (r : Rescored) → u ≡ rescoredTimes n c z s t → changingOf r ≡ rescoreTable u c z s
+  pub rescored-more : (n : ℕ) (u : Table) (r : Rescored) → u ≡ rescoredTimes n c z s t → outcomeOf (r .answer) (r .table) ≡ rescoreTable narrow u c z s
       → r .table ≡ rescoredTimes (n + 1) c z s t
   rescored-more n u r e k =
-      ap (λ (m : Changing). m .table) (k ∙ ap (λ (x : Table). rescoreTable x c z s) e) ∙ sym (rescoredTimes-more n)
+      ap (λ (m : Outcome Table). m .given) (k ∙ ap (λ (x : Table). rescoreTable narrow x c z s) e) ∙ sym (rescoredTimes-more n)
 
 -- with the score and the built table as the code has them
-pub rescored-end : (i n c : ℕ) (y z : ℤ) (s : ℕ) (b : Built) (m : Making) (u : Table) → i ≡ n → y ≡ z → makingOf b ≡ m
-    → u ≡ rescoredTimes i c y s (b .table) → u ≡ rescoredTimes n c z s (m .table)
+pub rescored-end : (i n c : ℕ) (y z : ℤ) (s : ℕ) (b : Built) (m : Outcome Table) (u : Table) → i ≡ n → y ≡ z
+    → outcomeOf (b .answer) (b .table) ≡ m → u ≡ rescoredTimes i c y s (b .table) → u ≡ rescoredTimes n c z s (m .given)
 rescored-end i n c y z s b m u e h k q =
-    q ∙ ap (λ (j : ℕ). rescoredTimes j c y s (b .table)) e ∙ ap₂ (λ (x : ℤ) (p : Making). rescoredTimes n c x s (p .table)) h k
+    q ∙ ap (λ (j : ℕ). rescoredTimes j c y s (b .table)) e ∙ ap₂ (λ (x : ℤ) (p : Outcome Table). rescoredTimes n c x s (p .given)) h k
