@@ -5,9 +5,9 @@ use mathlib.Core.Logic.{⊎-elim}
 use Prim.Native.Nat.{_+_, _-_, _*_, _≤_}
 use native.Mathlib.Omega.{arith}
 use borrow.Author.Needs.{needs}
-use borrow.Author.Tests.{not-true, not-false}
 use denote.Ref.{now}
 use Rattle.laws.specs.Limits.{wordValues}
+use Rattle.laws.proofs.Tests.{passed, failed}
 use Rattle.members.specs.Marked.{scoredTo}
 use Rattle.members.proofs.Laws.Marked.{scored-skips, scored-takes}
 use Rattle.members.proofs.marks.are_scored.Statement.{statement}
@@ -32,9 +32,9 @@ loop-again c =
     let mark = sym (c .before .is-marked .ensures) in
     let so-far = at-loop .loop .inv .1 in
     let step : c .if1 .scored ≡ scoredTo ss m (i + 1) =
-    ⊎-elim (λ w. w .4 ∙ sym (scored-takes ss m i (mark ∙ w .0 .taken) (sym (w .2 .ensures) ∙ not-true _ (w .3 .taken))))
+    ⊎-elim (λ w. w .4 ∙ sym (scored-takes ss m i (mark ∙ w .0 .taken) (failed (w .2 .ensures) (w .3 .taken))))
     (⊎-elim
-    (λ w. w .4 ∙ so-far ∙ sym (scored-takes ss m i (mark ∙ w .0 .taken) (sym (w .2 .ensures) ∙ not-false _ (w .3 .left))))
+    (λ w. w .4 ∙ so-far ∙ sym (scored-takes ss m i (mark ∙ w .0 .taken) (passed (w .2 .ensures) (w .3 .left))))
     (λ w. w .1 ∙ so-far ∙ sym (scored-skips ss m i (mark ∙ w .0 .left))))
     (c .if1 .came)
     in
