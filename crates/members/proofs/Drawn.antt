@@ -9,7 +9,7 @@ use mathlib.Core.Bool.{_&&_}
 use mathlib.Core.Option.{none, some}
 use Prim.Native.Nat.{ℕ}
 use native.Mathlib.Nat.{le-trans}
-use lib.ListN.{length}
+use lib.ListN.{take}
 use Rattle.laws.specs.Limits.{Width, WidthFacts}
 use Rattle.laws.proofs.Tests.{T-and, T-true, T-of-not}
 use Rattle.cluster.specs.declared.refusal.Answer.{Answer}
@@ -21,15 +21,14 @@ use Rattle.cluster.proofs.Laws.Reasons.{none-iff}
 use Rattle.cluster.proofs.Laws.Outcome.{outcome-only, ended-refused, ended-done}
 use Rattle.kept.specs.declared.table.Table.{Table}
 use Rattle.kept.specs.Fit.{isFit}
-use Rattle.kept.specs.Rows.{shownRows, leafSet}
+use Rattle.kept.specs.Rows.{leafSet}
 use Rattle.kept.proofs.Laws.Fit.{isFit→}
 use Rattle.kept.proofs.Laws.Rows.{placeOf-at}
 use Rattle.members.specs.declared.draw.Drawn.{Drawn}
-use Rattle.members.specs.Draw.{hasTree, leafMarks, areScored, weighsBest, isDrawable, drawReasons}
+use Rattle.members.specs.Draw.{hasTree, markedRows, areScored, weighsBest, isDrawable, drawReasons}
 use Rattle.members.specs.Draw.{DrawnMembers, noMembers, drawnMembers, drawnTree, drawnOf}
 use Rattle.members.specs.Drawable.{Drawable, Success}
-use Rattle.members.specs.Gathered.{Gathered}
-use Rattle.members.proofs.Laws.Gathered.{gathered-front, gathered-fits, gathered-count}
+use Rattle.members.proofs.Laws.Gathered.{members-length, members-front, members-fit}
 use Rattle.members.proofs.Laws.Draw.{hasTree→, isSame→}
 use Rattle.members.proofs.Laws.Members.{members-falling, members-once, members-sound, members-listed}
 
@@ -84,13 +83,12 @@ module _ (W : Width) (t : Table) where
   pub drawn-done : WidthFacts W → {r : Drawn} {n : ℕ} → drawnOf r ≡ drawnTree W t → r .answer ≡ Done n → Success W t r
   drawn-done facts {r} {n} p h =
       let q = ended-done (firstReason (drawReasons W t)) noMembers 0 (drawnMembers t) n (given r) (answered r p h) in
-      let g : Gathered (t .clusters) (leafMarks t) (shownRows t) (record { clusters = r .clusters; size = r .size }) =
-      record { size = ap (λ (m : DrawnMembers). m .size) (q .1); clusters = ap (λ (m : DrawnMembers). m .clusters) (q .1) }
-      in record {
+      let size = ap (λ (m : DrawnMembers). m .size) (q .1) in
+      let clusters = ap (λ (m : DrawnMembers). m .clusters) (q .1) in record {
         unrefused = q .0;
         table = drawable W facts t (q .0);
         row = ap (λ (m : DrawnMembers). m .row) (q .1);
-        size = gathered-count g ∙ ap length (gathered-front g);
-        front = gathered-front g;
-        fits = gathered-fits g;
+        size = size ∙ sym (members-length (t .clusters) (markedRows t));
+        front = ap₂ take size clusters ∙ members-front (t .clusters) (markedRows t);
+        fits = rw (size, clusters) (members-fit (t .clusters) (markedRows t));
       }

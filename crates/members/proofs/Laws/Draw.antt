@@ -10,7 +10,6 @@ use mathlib.Core.Path.{_≡_, sym, ap, ap₂, _∙_}
 use mathlib.Core.Logic.{_≢_}
 use mathlib.Core.Bool.{Bool, true, false, not, _&&_, and-false}
 use mathlib.Core.Option.{Option, none, some}
-use mathlib.Core.List.{List}
 use Prim.Native.Nat.{ℕ, _≤_, _<_}
 use native.Mathlib.Nat.{min-eq-left}
 use borrow.Author.Tests.{eq-eqb, ne-eqb, lt-ltb, le-ltb}
@@ -99,9 +98,6 @@ module _ {W : Width} {t : Table} {c i : ℕ} (f : Found W t c i) where
   abbrev refused : Outcome DrawnMembers
   refused = outcomeOf (Refused Unfit) noMembers
 
-  abbrev isTreeAt : List ℕ → Bool
-  isTreeAt xs = isTree (W .taxa) (t .degree) c xs
-
   abbrev drawableAt : ℕ → ℕ → ℕ → Bool
   drawableAt k n C =
       let m = resultAt t k .members in
@@ -119,26 +115,31 @@ module _ {W : Width} {t : Table} {c i : ℕ} (f : Found W t c i) where
   undrawn : drawableAt i (t .rows) c ≡ false → refused ≡ drawnTree W t
   undrawn h = sym (drawn-marks W t (f .fit) (f .tree) (drawable-at ∙ h))
 
-  pub found-unscored : scoredTo (t .states) marks (t .rows) ≡ false → refused ≡ drawnTree W t
-  found-unscored h = undrawn (rw h)
+  module _ {r : Members} (g : Gathered (t .clusters) (t .weights) (t .states) marks (t .rows) r) where
+    tests-are : drawableAt i (t .rows) c
+        ≡ (r .scored && isSame (r .weight) (resultAt t i .best) && isTree (W .taxa) (t .degree) c (take (r .size) (r .clusters)))
+    tests-are = λ j.
+        sym (g .scored) j
+        && isSame (sym (g .weight) j) (resultAt t i .best)
+        && isTree (W .taxa) (t .degree) c (sym (gathered-front g) j)
 
-  module _ (a : scoredTo (t .states) marks (t .rows) ≡ true) where
-    pub found-other : weightTo (t .weights) marks (t .rows) ≢ resultAt t i .best → refused ≡ drawnTree W t
-    found-other h = undrawn (rw (a, T-false (isSame (weightTo (t .weights) marks (t .rows)) (resultAt t i .best)) (λ k. h (isSame→ _ _ k))))
+    pub found-unscored : r .scored ≡ false → refused ≡ drawnTree W t
+    found-unscored h = undrawn (tests-are ∙ rw h)
 
-    module _ (b : weightTo (t .weights) marks (t .rows) ≡ resultAt t i .best) {r : Members}
-        (g : Gathered (t .clusters) marks (t .rows) r) where
-      tests-are : drawableAt i (t .rows) c ≡ isTreeAt (take (r .size) (r .clusters))
-      tests-are =
-          rw (a, b, T-true (isSame (resultAt t i .best) (resultAt t i .best)) (isSame-refl (resultAt t i .best)))
-          (ap isTreeAt (sym (gathered-front g)))
+    pub found-other : r .scored ≡ true → r .weight ≢ resultAt t i .best → refused ≡ drawnTree W t
+    found-other a h = undrawn (tests-are ∙ rw (a, T-false (isSame (r .weight) (resultAt t i .best)) (λ k. h (isSame→ _ _ k))))
 
-      pub found-no-tree : isTreeAt (take (r .size) (r .clusters)) ≡ false → refused ≡ drawnTree W t
-      found-no-tree h = undrawn (tests-are ∙ h)
+    module _ (a : r .scored ≡ true) (b : r .weight ≡ resultAt t i .best) where
+      tree-is : isDrawable W t ≡ isTree (W .taxa) (t .degree) c (take (r .size) (r .clusters))
+      tree-is =
+          drawable-at ∙ tests-are ∙ rw (a, b, T-true (isSame (resultAt t i .best) (resultAt t i .best)) (isSame-refl (resultAt t i .best)))
 
-      pub found-tree : isTreeAt (take (r .size) (r .clusters)) ≡ true
+      pub found-no-tree : isTree (W .taxa) (t .degree) c (take (r .size) (r .clusters)) ≡ false → refused ≡ drawnTree W t
+      found-no-tree h = sym (drawn-marks W t (f .fit) (f .tree) (tree-is ∙ h))
+
+      pub found-tree : isTree (W .taxa) (t .degree) c (take (r .size) (r .clusters)) ≡ true
           → outcomeOf (Done 0) (record { row = i; clusters = r .clusters; size = r .size }) ≡ drawnTree W t
       found-tree h =
           (λ j. outcomeOf (Done 0) (record { row = i; clusters = g .clusters j; size = g .size j }))
           ∙ (λ j. outcomeOf (Done 0) (membersAt (f .row j) (sym (min-eq-left (f .capped)) j)))
-          ∙ sym (drawn-whole W t (f .fit) (f .tree) (drawable-at ∙ tests-are ∙ h))
+          ∙ sym (drawn-whole W t (f .fit) (f .tree) (tree-is ∙ h))
