@@ -36,7 +36,8 @@ use Rattle.shapes.proofs.Backward.{text-reverse}
 use Rattle.shapes.proofs.Theorems.{TreeOn, trees-on, text-length-narrow, list-length-le}
 use Rattle.kept.specs.declared.table.Table.{Table}
 use Rattle.kept.specs.Fit.{isFit}
-use Rattle.table.proofs.Fitting.FitTables.{Accepted, built-fit}
+use Rattle.table.proofs.Laws.Build.{Buildable}
+use Rattle.table.proofs.Fitting.FitTables.{built-fit}
 use Rattle.drawing.specs.Draw.{hasTree, isDrawable}
 use Rattle.drawing.specs.Draw.{drawRefusal, putInto, drawnAs, drawTree, drawText}
 use Rattle.drawing.proofs.Laws.Draw.{refusal-no-tree, refusal-none}
@@ -62,7 +63,7 @@ enough out l h = cond-true (leb (length out) (length l)) _ _ (le→leb (length o
 
 -- ---- a built table
 
-module _ (d : ℕ) (rs : List Row) (k : Accepted d rs) where
+module _ (d : ℕ) (rs : List Row) (k : Buildable narrow d rs) where
   abbrev t : Table
   t = builtFrom d rs
 

@@ -46,7 +46,8 @@ use Rattle.kept.proofs.Laws.Fit.{isFit→}
 use Rattle.kept.proofs.Laws.Clusters.{clusters-are}
 use Rattle.kept.proofs.Laws.Rows.{hasRow-is, placeOf-at}
 use Rattle.kept.proofs.Laws.View.{entries-table, table-sized}
-use Rattle.table.proofs.Fitting.FitTables.{Accepted, built-fit}
+use Rattle.table.proofs.Laws.Build.{Buildable}
+use Rattle.table.proofs.Fitting.FitTables.{built-fit}
 use Rattle.drawing.specs.Draw.{leafRow, hasTree}
 use Rattle.drawing.proofs.Laws.Draw.{hasTree→, hasTree-count}
 
@@ -61,7 +62,7 @@ treesOf d rs = treesOn (narrow .taxa) d (scoredIn rs) (leaves rs)
 
 -- ---- the rows of the table
 
-module _ (d : ℕ) (rs : List Row) (k : Accepted d rs) where
+module _ (d : ℕ) (rs : List Row) (k : Buildable narrow d rs) where
   abbrev t : Table
   t = builtFrom d rs
 

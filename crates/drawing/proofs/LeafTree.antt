@@ -43,7 +43,7 @@ use Rattle.shapes.proofs.Sorted.{ascending-is-reverse}
 use Rattle.kept.specs.declared.table.Table.{Table}
 use Rattle.kept.specs.View.{resultAt}
 use Rattle.kept.specs.Rows.{shownRows, leafSet}
-use Rattle.table.proofs.Fitting.FitTables.{Accepted}
+use Rattle.table.proofs.Laws.Build.{Buildable}
 use Rattle.drawing.specs.Draw.{leafRow, leafMarks, membersOf, isSame, isDrawable}
 use Rattle.drawing.specs.Marked.{membersTo, scoredTo, weightTo}
 use Rattle.drawing.proofs.LeafRow.{builtFrom, leaves, treesOf, shown-is, rows-are, clusters-down, rising, row-at}
@@ -55,7 +55,7 @@ same-weights a b e =
     subst (λ (z : ℤ). T (isSame a z)) e
     (and-T (not (ltZ a a)) (not (ltZ a a)) (not-T (ltZ a a) (ltZ-irrefl a)) (not-T (ltZ a a) (ltZ-irrefl a)))
 
-module _ (d : ℕ) (rs : List Row) (k : Accepted d rs) where
+module _ (d : ℕ) (rs : List Row) (k : Buildable narrow d rs) where
   abbrev t : Table
   t = builtFrom d rs
 

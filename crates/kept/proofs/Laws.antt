@@ -1,8 +1,4 @@
 -- Laws of the definitions of `specs/`.
--- one field of all rows
-pub mod Column
--- what an order of positions shows
-pub mod Through
 -- results and rows that are all zero
 pub mod Blank
 -- a table as rows with their results, and back

@@ -1,19 +1,13 @@
 -- The arrays of a table as the private functions see them.
---     through f o n         what f has for the first n numbers of o, the last of them first
---     Rising cs n           the first n clusters are there, and ascend
---     Sized t               every array has room for 128 rows
+--     Rising cs n     the first n clusters are there, and ascend
+--     Sized t         every array has room for 128 rows
 -- Assumes nothing.
 use mathlib.Core.Path.{_≡_}
 use mathlib.Core.List.{List}
 use Prim.Native.Nat.{ℕ, _≤_, _<_}
 use lib.ListN.{length, getD}
 use Rattle.laws.specs.Limits.{rowCap}
-use Rattle.laws.specs.Lists.{downTo}
 use Rattle.kept.specs.declared.table.Table.{Table}
-
-module _ {A : Type 0} where
-  abbrev pub through : (ℕ → A) → List ℕ → ℕ → List A
-  through f o = downTo (λ (i : ℕ). f (getD o i 0))
 
 pub record Rising (cs : List ℕ) (n : ℕ) : Type 0 where
   pub long : n ≤ length cs

@@ -6,11 +6,12 @@
 --     tableOf d es             the table with degree bound d and the rows es: ascending, and all zero past them
 --     zeroTable                the all-zero table
 -- Assumes nothing.
-use mathlib.Core.List.{List, [], _++_, map, reverse}
-use Prim.Native.Nat.{ℕ, _+_, _-_, _*_, _/_, _%_}
+use mathlib.Core.List.{List, [], map}
+use Prim.Native.Nat.{ℕ, _+_, _*_, _/_, _%_}
 use lib.IntN.{pos}
-use lib.ListN.{getD, length, replicate}
-use Rattle.laws.specs.Limits.{rowCap, wordValues}
+use lib.ListN.{getD, length}
+use Rattle.laws.specs.Column.{column}
+use Rattle.laws.specs.Limits.{wordValues}
 use Rattle.laws.specs.Lists.{downTo}
 use Rattle.laws.specs.Row.{Row}
 use Rattle.trees.specs.Rows.{Entry, cl}
@@ -40,11 +41,6 @@ clustersIn t = map cl (entriesOf t (t .rows))
 
 abbrev pub clustersDown : List ℕ → ℕ → List ℕ
 clustersDown cs = downTo (λ (i : ℕ). getD cs i 0)
-
--- one field of all rows, ascending, and zeros past them
-module _ {A : Type 0} where
-  abbrev pub column : A → (Entry Result → A) → List (Entry Result) → List A
-  column z f es = reverse (map f es) ++ replicate (rowCap - length es) z
 
 abbrev pub tableOf : ℕ → List (Entry Result) → Table
 tableOf d es = record {

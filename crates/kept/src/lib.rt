@@ -2,7 +2,7 @@
 // definition of `specs/`. The crate `table` builds and rescores it, and passes these on.
 //     Table, zero_table         one value with room for 128 rows, and the one that is all zero
 //     is_fit                    every sentence of document 01's "fit", as one test
-//     place_of, leaf_set         where a cluster's row stands, and the union of all clusters
+//     place_of, leaf_set        where a cluster's row stands, and the union of all clusters
 //     COUNT_MAX, ..             the paper's limits that the crates above compare with too
 mod blank;
 mod fitness;
@@ -16,6 +16,7 @@ pub use fitness::is_fit;
 pub use limits::COUNT_MAX;
 pub use limits::DEGREE_HIGH;
 pub use limits::DEGREE_LOW;
+pub use limits::ROW_CAP;
 pub use limits::WORD_ROWS;
 pub use rows::leaf_set;
 pub use rows::place_of;

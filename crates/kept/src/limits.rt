@@ -2,7 +2,7 @@
 // Rows that a table may have, and the room for rows in its arrays.
 pub(crate) const ROWS: usize = 128;
 
-pub(crate) const ROW_CAP: usize = 128;
+pub const ROW_CAP: usize = 128;
 
 pub(crate) const TAXA_VALUES: u64 = 4294967296;
 

@@ -10,7 +10,5 @@ pub mod Rows
 pub mod Fitting
 -- a list with one record rewritten, a table with one row rescored, and that the one is the build of the other
 pub mod Changing
--- which lists a build takes, why it refuses the others, and that the order of records plays no part
-pub mod Acceptance
 -- the theorems that answer the demands
 pub mod Theorems

@@ -1,13 +1,16 @@
 -- One row worked out, and every row that contains a cluster.
 -- marks as numbers
 pub mod Marked
--- what the rows beneath a row show to the search
-pub mod Bare
 -- the results of one row stored
 pub mod Stored
--- a row by itself, and the row worked out by the code
+-- a row by itself, field by field
 pub mod Working
+-- what the search may count on, and a row over what it finds
+pub mod Ready
 -- the row that the code works out is the paper's
 pub mod WorkedRow
--- the loop over the rows
+-- the rows of a table that may be worked out, and those that are
+pub mod Workable
+-- the loop over the rows, one turn and the whole
+pub mod AgainRow
 pub mod AgainLoop

@@ -1,55 +1,30 @@
 -- Rescoring one row of a kept table (document 01, "The table" and "What is sent back"): stated by the paper's formulas, for every fit
--- table, whether or not a build made it. Laws: `proofs/Laws/Rescore.antt`.
---     Changing, changingOf r     what a rescoring sends back, and its table
---     isScore z s                weight and state keep the record rules
---     rescoreRefusal             why it is refused: 8 (fitness only), 9, 10 in that order
---     newTable t c z s           the table with the new score, each row that contains it worked out again
---     rescoreTable t c z s       what rescoring gives; refused, the table is as it was given, whatever it holds
+-- table, whether or not a build made it. Laws: `proofs/Changing/Rescore.antt`.
+--     rescoreReasons W t c z s     why it is refused: 8 (fitness only), 9, 10 in that order
+--     newTable W t c z s           the table with the new score, each row that contains it worked out again
+--     rescoreTable W t c z s       what rescoring gives; refused, the table is as it was given, whatever it holds
 -- Assumes nothing.
-use mathlib.Core.Bool.{Bool, false, not, cond}
-use mathlib.Core.Option.{Option, none, some}
-use mathlib.Core.List.{map}
+use mathlib.Core.Bool.{not}
+use mathlib.Core.List.{List, [], _∷_}
 use Prim.Native.Nat.{ℕ}
 use lib.IntN.{ℤ}
-use Rattle.laws.specs.Limits.{narrow}
-use Rattle.cluster.specs.declared.refusal.Answer.the-variants.{Done, Refused}
-use Rattle.cluster.specs.declared.refusal.Refusal.{Refusal}
+use Rattle.laws.specs.Limits.{Width}
 use Rattle.cluster.specs.declared.refusal.Refusal.the-variants.{Unfit, NoRow, BadScore}
-use Rattle.cluster.specs.Refusal.{Sent, sentOf}
-use Rattle.cluster.specs.Rule.{brokenRule, isKept}
-use Rattle.trees.specs.Rows.{cl}
+use Rattle.cluster.specs.Outcome.{Outcome, ended}
+use Rattle.cluster.specs.Reasons.{Reason, when, firstReason}
+use Rattle.cluster.specs.Rule.{isScore}
 use Rattle.trees.specs.Rescored.{rescored}
 use Rattle.kept.specs.declared.table.Table.{Table}
-use Rattle.kept.specs.View.{entriesOf, tableOf}
+use Rattle.kept.specs.View.{entriesOf, clustersIn, tableOf}
 use Rattle.kept.specs.Fit.{isFit}
 use Rattle.kept.specs.Rows.{hasRow}
-use Rattle.table.specs.declared.rescoring.Rescored.{Rescored}
 
-pub record Changing : Type 0 where
-  pub sent : Sent
-  pub table : Table
+module _ (W : Width) (t : Table) (c : ℕ) (z : ℤ) (s : ℕ) where
+  abbrev pub rescoreReasons : List Reason
+  rescoreReasons = when (not (isFit W t)) Unfit ∷ when (not (hasRow t c)) NoRow ∷ when (not (isScore z s)) BadScore ∷ []
 
-abbrev pub changingOf : Rescored → Changing
-changingOf r = record { sent = sentOf (r .answer); table = r .table }
+  abbrev pub newTable : Table
+  newTable = tableOf (t .degree) (rescored W (t .degree) (clustersIn t) c z s (entriesOf t (t .rows)))
 
--- by the record rules, for any cluster that may stand in a record
-abbrev pub isScore : ℤ → ℕ → Bool
-isScore z s = isKept (brokenRule (record { cluster = 1; weight = z; state = s }) false)
-
-abbrev pub rescoreRefusal : Table → ℕ → ℤ → ℕ → Option Refusal
-rescoreRefusal t c z s =
-    cond (not (isFit narrow t)) (some Unfit)
-    (cond (not (hasRow t c)) (some NoRow)
-    (cond (not (isScore z s)) (some BadScore)
-    none))
-
-abbrev pub newTable : Table → ℕ → ℤ → ℕ → Table
-newTable t c z s =
-    tableOf (t .degree) (rescored narrow (t .degree) (map cl (entriesOf t (t .rows))) c z s (entriesOf t (t .rows)))
-
-abbrev pub changedOf : Table → ℕ → ℤ → ℕ → Option Refusal → Changing
-changedOf t c z s (some f) = record { sent = sentOf (Refused f); table = t }
-changedOf t c z s none = record { sent = sentOf (Done 0); table = newTable t c z s }
-
-unfoldable pub rescoreTable : Table → ℕ → ℤ → ℕ → Changing
-rescoreTable t c z s = changedOf t c z s (rescoreRefusal t c z s)
+  unfoldable pub rescoreTable : Outcome Table
+  rescoreTable = ended (firstReason rescoreReasons) t 0 newTable

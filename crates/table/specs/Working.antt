@@ -1,55 +1,72 @@
 -- What the private functions that work rows out cite: one row over the columns beneath it, and every row that contains a cluster.
---     beneathOf k n             the first n rows of the columns with their results, the largest first
---     workedRow k z i d         row i of the columns, with the weight z, worked out by the paper's formulas from the rows beneath
---     clustersOf t              the clusters of a table's rows, the largest first
---     againTable t c            the table with every row that contains c worked out again
+--     workedTally W k z i d     row i of the columns, with the weight z, from the rows beneath, as the code has it; that it is the paper's
+--                               row: `proofs/Rows/WorkedRow.antt`
+--     unworkedTable r d         the rows of a list, in arrays, as a table with no results
+--     againTable W t c          the table with every row that contains c worked out again, by the paper's formulas
 --     Ready, Workable           what each may count on
 -- Assumes nothing.
-use mathlib.Core.List.{List, [], _∷_}
-use Prim.Native.Nat.{ℕ, zero, suc, _-_, _≤_, _<_}
+use mathlib.Core.Bool.{cond}
+use mathlib.Core.List.{List}
+use Prim.Native.Nat.{ℕ, _-_, _≤_, _<_}
 use lib.Dec.{T}
-use lib.IntN.{ℤ, natAbs}
-use lib.ListN.{getD}
-use Rattle.laws.specs.Cluster.{inside}
-use Rattle.laws.specs.Limits.{narrow, weightMax, degreeLow, degreeHigh, rowCap, wordValues}
-use Rattle.laws.specs.Row.{Row}
-use Rattle.trees.specs.Rows.{Entry}
-use Rattle.trees.specs.Result.{Result}
+use lib.IntN.{ℤ, pos, natAbs}
+use lib.ListN.{getD, replicate}
+use Rattle.laws.specs.Cluster.{inside, single}
+use Rattle.laws.specs.Limits.{Width, weightMax, degreeLow, degreeHigh, rowCap, wordValues}
+use Rattle.laws.specs.State.{scored}
+use Rattle.cluster.specs.Rule.{keepsRules}
+use Rattle.lists.specs.Listing.{Listed}
 use Rattle.trees.specs.Rescored.{workedOut, again}
 use Rattle.kept.specs.declared.table.Table.{Table}
-use Rattle.kept.specs.View.{rowAt, entryAt, entriesOf, tableOf, clustersDown}
+use Rattle.kept.specs.View.{rowAt, entryAt, entriesOf, clustersIn, clustersDown, tableOf}
 use Rattle.kept.specs.Blank.{isEmpty}
-use Rattle.kept.specs.Fit.{keepsRules, fitEntry}
+use Rattle.kept.specs.Fit.{fitEntry}
 use Rattle.kept.specs.Arrays.{Rising, Sized}
-use Rattle.table.specs.Searched.{Columns, rowOf, fieldsOf, Starts, Long, Sound}
+use Rattle.table.specs.declared.tally.Tally.{Tally}
+use Rattle.table.specs.Tally.{tallyOf, ownTally}
+use Rattle.table.specs.Searched.{Starts, Long, Sound}
+use Rattle.table.specs.Columns.{Columns, partsOf, sumCovers}
+use Rattle.table.specs.Sums.{noTally, underTally}
 
-abbrev pub beneathOf : Columns → ℕ → List (Entry Result)
-beneathOf k zero = []
-beneathOf k (suc i) = record { row = rowOf k i; val = fieldsOf k i } ∷ beneathOf k i
+-- what the search adds up over the tuples of row i
+abbrev pub foundTally : Width → Columns → ℕ → ℕ → Tally
+foundTally W k i d = tallyOf (W .countMax) (sumCovers (d - 1) (getD (k .clusters) i 0) (partsOf k i))
 
-abbrev pub rowWith : Columns → ℤ → ℕ → Row
-rowWith k z i = record { cluster = getD (k .clusters) i 0; weight = z; state = getD (k .states) i 0 }
+abbrev pub workedTally : Width → Columns → ℤ → ℕ → ℕ → Tally
+workedTally W k z i d =
+    cond (scored (getD (k .states) i 0))
+    (cond (single (getD (k .clusters) i 0)) (ownTally 0 z i) (underTally (W .countMax) (ownTally 1 z i) (foundTally W k i d)))
+    noTally
 
-abbrev pub workedRow : Columns → ℤ → ℕ → ℕ → Result
-workedRow k z i d = workedOut narrow d (clustersDown (k .clusters) (suc i)) (rowWith k z i) (beneathOf k i)
+abbrev pub unworkedTable : Listed → ℕ → Table
+unworkedTable r d = record {
+  rows = r .rows;
+  clusters = r .clusters;
+  weights = r .weights;
+  states = r .states;
+  lengths = replicate rowCap 0;
+  counts = replicate rowCap 0;
+  marks = replicate rowCap 0;
+  bests = replicate rowCap (pos 0);
+  «members_low» = replicate rowCap 0;
+  «members_high» = replicate rowCap 0;
+  degree = d;
+}
 
-abbrev pub clustersOf : Table → List ℕ
-clustersOf t = clustersDown (t .clusters) (t .rows)
-
-abbrev pub againTable : Table → ℕ → Table
-againTable t c = tableOf (t .degree) (again (workedOut narrow (t .degree) (clustersOf t)) c (entriesOf t (t .rows)))
+abbrev pub againTable : Width → Table → ℕ → Table
+againTable W t c = tableOf (t .degree) (again (workedOut W (t .degree) (clustersIn t)) c (entriesOf t (t .rows)))
 
 -- ---- what working out one row may count on
 -- the rows beneath row i are sound among all rows, of which the columns have at least those up to row i
-pub record Ready (k : Columns) (starts : List ℕ) (z : ℤ) (i d : ℕ) : Type 0 where
+pub record Ready (W : Width) (k : Columns) (starts : List ℕ) (z : ℤ) (i d : ℕ) : Type 0 where
   pub rows : ℕ
   pub place : i < rows
   pub capped : rows ≤ rowCap
   pub long : Long k rows
-  pub sound : Sound (narrow .countMax) k (clustersDown (k .clusters) rows) i
+  pub sound : Sound (W .countMax) k (clustersDown (k .clusters) rows) i
   pub rising : Rising (k .clusters) rows
   pub begins : Starts (k .clusters) rows starts
-  pub some : 0 < getD (k .clusters) i 0
+  pub nonzero : 0 < getD (k .clusters) i 0
   pub small : getD (k .clusters) i 0 < wordValues
   pub low : degreeLow ≤ d
   pub high : d ≤ degreeHigh
@@ -57,14 +74,14 @@ pub record Ready (k : Columns) (starts : List ℕ) (z : ℤ) (i d : ℕ) : Type 
 
 -- ---- what working out a table may count on
 -- the rows that don't contain c are fit; the others are to be worked out
-pub record Workable (t : Table) (c : ℕ) : Type 0 where
-  pub some : 1 ≤ t .rows
-  pub capped : t .rows ≤ rowCap
+pub record Workable (W : Width) (t : Table) (c : ℕ) : Type 0 where
+  pub filled : 1 ≤ t .rows
+  pub capped : t .rows ≤ W .rows
   pub sized : Sized t
   pub low : degreeLow ≤ t .degree
   pub high : t .degree ≤ degreeHigh
   pub rising : Rising (t .clusters) (t .rows)
-  pub rules : (i : ℕ) → i < t .rows → T (keepsRules narrow (rowAt t i))
-  pub fit : (i : ℕ) → i < t .rows → (T (inside c (rowAt t i .cluster)) → ⊥) → T (fitEntry narrow (clustersOf t) (entryAt t i))
+  pub rules : (i : ℕ) → i < t .rows → T (keepsRules W (rowAt t i))
+  pub fit : (i : ℕ) → i < t .rows → (T (inside c (rowAt t i .cluster)) → ⊥) → T (fitEntry W (clustersIn t) (entryAt t i))
   pub words : (i : ℕ) → i < t .rows → getD (t .«members_low») i 0 < wordValues
   pub blank : (i : ℕ) → t .rows ≤ i → i < rowCap → T (isEmpty (entryAt t i))

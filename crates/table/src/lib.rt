@@ -6,7 +6,6 @@
 //     Table, zero_table         one value with room for 128 rows, and the one that is all zero
 //     is_fit                    every sentence of document 01's "fit", as one test
 //     place_of, leaf_set        where a cluster's row stands, and the union of all clusters
-mod listing;
 mod making;
 mod rescoring;
 mod searching;

@@ -1,26 +1,25 @@
 // Building a table. Cites `specs/Build.antt`.
-//     Built       what a build gives
-//     refused     a refused build
-//     made        the table of whole records
-//     build       a list of records and a degree bound to a table
-use crate::listing::arranged;
-use crate::listing::ordered;
-use crate::listing::read_all;
+//     Built        what a build gives
+//     refused      a refused build
+//     unworked     the rows of a list as a table with no results
+//     build        a list of records and a degree bound to a table
 use crate::working::again;
 use cluster::Answer;
-use cluster::RECORD_BYTES;
 use cluster::Refusal;
 use kept::DEGREE_HIGH;
 use kept::DEGREE_LOW;
 use kept::Table;
 use kept::zero_table;
+use lists::Listing;
+use lists::read_list;
 ghost use mathlib.Core.Path.{_≡_};
-ghost use Rattle.table.specs.Listing.{recordRefusal};
-ghost use Rattle.table.specs.Arranged.{Makeable};
-ghost use Rattle.table.specs.Build.{makingOf, refusedBuild, madeOf, buildTable};
-
-// The longest list: 128 records.
-const LIST_BYTES: usize = 1536;
+ghost use Rattle.laws.specs.Limits.{narrow};
+ghost use Rattle.cluster.specs.declared.refusal.Answer.the-variants.{Refused};
+ghost use Rattle.cluster.specs.Outcome.{outcomeOf};
+ghost use Rattle.lists.specs.Listing.{listingOf};
+ghost use Rattle.kept.specs.View.{zeroTable};
+ghost use Rattle.table.specs.Build.{buildTable};
+ghost use Rattle.table.specs.Working.{unworkedTable};
 
 // What a build gives: the table is all zero where the answer is a refusal.
 pub struct Built {
@@ -30,7 +29,7 @@ pub struct Built {
 
 // A refused build.
 fn refused(refusal: Refusal) -> Built
-    ensures { λ b. ⌜ makingOf b ≡ refusedBuild refusal ⌝ }
+    ensures { λ b. ⌜ outcomeOf (b .answer) (b .table) ≡ outcomeOf (Refused refusal) zeroTable ⌝ }
 {
     Built {
         answer: Answer::Refused(refusal),
@@ -38,41 +37,32 @@ fn refused(refusal: Refusal) -> Built
     }
 }
 
-// The table of a list of `n` whole records. Refused 5 and 6 in that order. The empty cluster lies inside every other, so every row is
-// worked out.
-fn made(list: &[u8], n: usize, degree: u32) -> Built
-    requires { ⌜ Makeable (now list) n degree ⌝ }
-    ensures { λ b. ⌜ makingOf b ≡ madeOf (now (list .entry)) degree (recordRefusal (now (list .entry)) n) ⌝ }
+// The rows of a list as a table with no results.
+fn unworked(listing: Listing, degree: u32) -> Table
+    ensures { λ t. ⌜ t ≡ unworkedTable (listingOf listing .given) degree ⌝ }
 {
-    let listed = read_all(list, n);
-    let read = listed.read;
-    if read < n {
-        return refused(Refusal::BadRecord(read));
-    }
-    let order = ordered(&listed.clusters, n);
-    let placed = order.placed;
-    if placed < n {
-        return refused(Refusal::Repeated(placed));
-    }
-    Built {
-        answer: Answer::Done(0),
-        table: again(
-            arranged(
-                &listed.clusters,
-                &listed.weights,
-                &listed.states,
-                &order.places,
-                n,
-                degree,
-            ),
-            0,
-        ),
+    let clusters = listing.clusters;
+    let weights = listing.weights;
+    let states = listing.states;
+    Table {
+        rows: listing.rows,
+        clusters,
+        weights,
+        states,
+        lengths: [0; 128],
+        counts: [0; 128],
+        marks: [0; 128],
+        bests: [0; 128],
+        members_low: [0; 128],
+        members_high: [0; 128],
+        degree,
     }
 }
 
-// The table of a list of records with the degree bound `degree`. Refused 4, 1, 3, 2, 5, 6 in that order.
+// The table of a list of records with the degree bound `degree`. Refused 4, 1, 3, 2, 5, 6 in that order. The empty cluster lies inside
+// every other, so every row is worked out.
 pub fn build(list: &[u8], degree: u32) -> Built
-    ensures { λ b. ⌜ makingOf b ≡ buildTable (now (list .entry)) degree ⌝ }
+    ensures { λ b. ⌜ outcomeOf (b .answer) (b .table) ≡ buildTable narrow (now (list .entry)) degree ⌝ }
 {
     if degree < DEGREE_LOW {
         return refused(Refusal::DegreeOut);
@@ -80,15 +70,13 @@ pub fn build(list: &[u8], degree: u32) -> Built
     if DEGREE_HIGH < degree {
         return refused(Refusal::DegreeOut);
     }
-    let length = list.len();
-    if length == 0 {
-        return refused(Refusal::NoBytes);
+    let listing = read_list(list);
+    let answer = listing.answer;
+    match answer {
+        Answer::Refused(refusal) => refused(refusal),
+        Answer::Done(_) => Built {
+            answer: Answer::Done(0),
+            table: again(unworked(listing, degree), 0),
+        },
     }
-    if LIST_BYTES < length {
-        return refused(Refusal::TooLong);
-    }
-    if length % RECORD_BYTES != 0 {
-        return refused(Refusal::WrongLength);
-    }
-    made(list, length / RECORD_BYTES, degree)
 }

@@ -3,15 +3,15 @@
 //     rescore      one row with a new weight and state, and every row that contains it worked out again
 use crate::working::again;
 use cluster::Answer;
-use cluster::Record;
 use cluster::Refusal;
-use cluster::broken_rule;
-use cluster::is_kept;
+use cluster::is_score;
 use kept::Table;
 use kept::is_fit;
 use kept::place_of;
 ghost use mathlib.Core.Path.{_≡_};
-ghost use Rattle.table.specs.Rescore.{isScore, changingOf, rescoreTable};
+ghost use Rattle.laws.specs.Limits.{narrow};
+ghost use Rattle.cluster.specs.Outcome.{outcomeOf};
+ghost use Rattle.table.specs.Rescore.{rescoreTable};
 
 // What a rescoring gives: the table is as it was given where the answer is a refusal.
 pub struct Rescored {
@@ -19,23 +19,9 @@ pub struct Rescored {
     pub table: Table,
 }
 
-// Whether weight and state keep the record rules.
-fn is_score(weight: i32, state: u8) -> bool
-    ensures { λ b. ⌜ b ≡ isScore weight state ⌝ }
-{
-    is_kept(broken_rule(
-        Record {
-            cluster: 1,
-            weight,
-            state,
-        },
-        false,
-    ))
-}
-
 // The table with a new weight and state in the row of `cluster`. Refused 8 (fitness only), 9, 10 in that order.
 pub fn rescore(given: Table, cluster: u64, weight: i32, state: u8) -> Rescored
-    ensures { λ r. ⌜ changingOf r ≡ rescoreTable given cluster weight state ⌝ }
+    ensures { λ r. ⌜ outcomeOf (r .answer) (r .table) ≡ rescoreTable narrow given cluster weight state ⌝ }
 {
     if !is_fit(given) {
         return Rescored {

@@ -11,14 +11,16 @@ use crate::tally::plus;
 use crate::tally::under;
 use cluster::highest;
 use cluster::is_inside;
-use kept::SCORED;
+use cluster::is_scored;
 ghost use mathlib.Core.Path.{_≡_};
 ghost use mathlib.Core.List.{[]};
 ghost use Prim.Native.Nat.{_≤_, _<_};
 ghost use lib.ListN.{length, replicate};
+ghost use Rattle.laws.specs.Limits.{degreeHigh};
 ghost use Rattle.kept.specs.Arrays.{Rising};
 ghost use Rattle.table.specs.Tally.{tallyOf};
-ghost use Rattle.table.specs.Searched.{columns, partTally, partsOf, sumCovers, Past, Below, Starts, Readable, Searchable};
+ghost use Rattle.table.specs.Searched.{Past, Below, Starts, Readable, Searchable};
+ghost use Rattle.table.specs.Columns.{columns, partTally, partsOf, sumCovers};
 
 // How many of the first `n` rows have a smaller cluster than `value`; the first `past` of them are known to.
 pub(crate) fn place_below(clusters: &[u64], past: usize, n: usize, value: u64) -> usize
@@ -110,7 +112,7 @@ fn last<'a>(
     if clusters[at] != rest {
         return none();
     }
-    if states[at] != SCORED {
+    if !is_scored(states[at]) {
         return none();
     }
     part(counts, marks, bests, lows, highs, at)
@@ -133,7 +135,7 @@ pub(crate) fn search<'a>(
 ) -> Tally
     requires { ⌜ Searchable limit
         (columns (now clusters) (now states) (now counts) (now marks) (now bests) (now lows) (now highs)) (now starts) end rest ⌝ }
-    requires { ⌜ (1 ≤ left) × (left ≤ 4) ⌝ }
+    requires { ⌜ (1 ≤ left) × (left < degreeHigh) ⌝ }
     ensures { λ r. ⌜ r ≡ tallyOf limit (sumCovers left rest (partsOf
         (columns (now (clusters .entry)) (now (states .entry)) (now (counts .entry)) (now (marks .entry))
         (now (bests .entry)) (now (lows .entry)) (now (highs .entry))) end)) ⌝ }
@@ -160,7 +162,7 @@ pub(crate) fn search<'a>(
         i -= 1;
         let c = clusters[i];
         if is_inside(c, rest) {
-            if states[i] == SCORED {
+            if is_scored(states[i]) {
                 let one = part(counts, marks, bests, lows, highs, i);
                 let other = rest - c;
                 if other == 0 {

@@ -10,7 +10,7 @@ ghost use lib.Signed.{ltZ};
 ghost use mir.Syntax.{w64};
 ghost use mir.Val.{SFits};
 ghost use Rattle.laws.specs.Limits.{wordValues};
-ghost use Rattle.table.specs.Tally.{noTally, plusCounts, timesCounts, isLarger, isBefore, keepsFirst, plusTally, underTally};
+ghost use Rattle.table.specs.Sums.{noTally, cappedSum, cappedProduct, isLarger, isBefore, keepsFirst, plusTally, underTally};
 
 // A number of tuples with the fields of a row. A count of 0 says that no tuple leads to a tree, and then the rest is zero.
 pub(crate) struct Tally {
@@ -43,9 +43,9 @@ pub(crate) fn none() -> Tally
 }
 
 // The count of two lists of trees.
-fn plus_counts(a: Tally, b: Tally, limit: u64) -> Count
+fn capped_sum(a: Tally, b: Tally, limit: u64) -> Count
     requires { ⌜ b .count ≤ limit ⌝ }
-    ensures { λ r. ⌜ r ≡ plusCounts limit a b ⌝ }
+    ensures { λ r. ⌜ r ≡ cappedSum limit a b ⌝ }
 {
     if a.mark == 1 {
         return Count {
@@ -72,8 +72,8 @@ fn plus_counts(a: Tally, b: Tally, limit: u64) -> Count
 }
 
 // The count of the pairs of two lists of trees: none where one of them is empty, marked or not.
-fn times_counts(a: Tally, b: Tally, limit: u64) -> Count
-    ensures { λ r. ⌜ r ≡ timesCounts limit a b ⌝ }
+fn capped_product(a: Tally, b: Tally, limit: u64) -> Count
+    ensures { λ r. ⌜ r ≡ cappedProduct limit a b ⌝ }
 {
     if a.count == 0 {
         return Count { count: 0, mark: 0 };
@@ -163,7 +163,7 @@ pub(crate) fn plus(a: Tally, b: Tally, limit: u64) -> Tally
     ensures { λ r. ⌜ r ≡ plusTally limit a b ⌝ }
 {
     let tuples = a.tuples + b.tuples;
-    let n = plus_counts(a, b, limit);
+    let n = capped_sum(a, b, limit);
     if keeps_first(a, b) {
         let mut r = a;
         r.tuples = tuples;
@@ -185,7 +185,7 @@ pub(crate) fn under(a: Tally, b: Tally, limit: u64) -> Tally
     requires { ⌜ a .high + b .high < wordValues ⌝ }
     ensures { λ r. ⌜ r ≡ underTally limit a b ⌝ }
 {
-    let n = times_counts(a, b, limit);
+    let n = capped_product(a, b, limit);
     if n.count == 0 {
         let mut r = none();
         r.tuples = b.tuples;

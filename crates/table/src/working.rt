@@ -8,16 +8,17 @@ use crate::tally::Tally;
 use crate::tally::none;
 use crate::tally::under;
 use cluster::is_inside;
+use cluster::is_scored;
 use cluster::is_single;
 use kept::COUNT_MAX;
-use kept::SCORED;
 use kept::Table;
 use kept::WORD_ROWS;
 ghost use mathlib.Core.Path.{_≡_};
 ghost use Prim.Native.Nat.{_<_};
-ghost use Rattle.table.specs.Tally.{fieldsTally, ownTally, lowMark, highMark};
-ghost use Rattle.table.specs.Searched.{columns};
-ghost use Rattle.table.specs.Working.{Workable, workedRow, againTable, Ready};
+ghost use Rattle.laws.specs.Limits.{narrow, rowCap};
+ghost use Rattle.table.specs.Tally.{ownTally, lowMark, highMark};
+ghost use Rattle.table.specs.Working.{Workable, workedTally, againTable, Ready};
+ghost use Rattle.table.specs.Columns.{columns};
 
 // The mark of row `i` in the low word.
 fn low_mark(i: usize) -> u64
@@ -31,7 +32,7 @@ fn low_mark(i: usize) -> u64
 
 // The mark of row `i` in the high word.
 fn high_mark(i: usize) -> u64
-    requires { ⌜ i < 128 ⌝ }
+    requires { ⌜ i < rowCap ⌝ }
     ensures { λ r. ⌜ r ≡ highMark i ⌝ }
 {
     if i < WORD_ROWS {
@@ -42,7 +43,7 @@ fn high_mark(i: usize) -> u64
 
 // Row `i` by itself, as one tuple or as none.
 fn own(weight: i32, i: usize, tuples: u64) -> Tally
-    requires { ⌜ i < 128 ⌝ }
+    requires { ⌜ i < rowCap ⌝ }
     ensures { λ r. ⌜ r ≡ ownTally tuples weight i ⌝ }
 {
     let best = weight as i64;
@@ -70,13 +71,13 @@ fn worked<'a>(
     i: usize,
     degree: u32,
 ) -> Tally
-    requires { ⌜ Ready (columns (now clusters) (now states) (now counts) (now marks) (now bests) (now lows) (now highs))
+    requires { ⌜ Ready narrow (columns (now clusters) (now states) (now counts) (now marks) (now bests) (now lows) (now highs))
         (now starts) weight i degree ⌝ }
-    ensures { λ r. ⌜ r ≡ fieldsTally (workedRow
+    ensures { λ r. ⌜ r ≡ workedTally narrow
         (columns (now (clusters .entry)) (now (states .entry)) (now (counts .entry)) (now (marks .entry))
-        (now (bests .entry)) (now (lows .entry)) (now (highs .entry))) weight i degree) ⌝ }
+        (now (bests .entry)) (now (lows .entry)) (now (highs .entry))) weight i degree ⌝ }
 {
-    if states[i] != SCORED {
+    if !is_scored(states[i]) {
         return none();
     }
     let c = clusters[i];
@@ -102,8 +103,8 @@ fn worked<'a>(
 
 // The table with every row that contains `cluster` worked out again, in ascending order; the others stay as they are.
 pub(crate) fn again(given: Table, cluster: u64) -> Table
-    requires { ⌜ Workable given cluster ⌝ }
-    ensures { λ t. ⌜ t ≡ againTable given cluster ⌝ }
+    requires { ⌜ Workable narrow given cluster ⌝ }
+    ensures { λ t. ⌜ t ≡ againTable narrow given cluster ⌝ }
 {
     let n = given.rows;
     let degree = given.degree;

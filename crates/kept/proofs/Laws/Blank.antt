@@ -114,7 +114,8 @@ blank→empty t i b = subst (λ (e : Entry Result). T (isEmpty e)) (sym same) tt
     }
 
 -- past the array's end there is nothing but the default
-pub blank-past : (t : Table) → Sized t → ((i : ℕ) → t .rows ≤ i → i < rowCap → T (isEmpty (entryAt t i))) → (i : ℕ) → t .rows ≤ i → Blank t i
+pub blank-past : (t : Table) → Sized t → ((i : ℕ) → t .rows ≤ i → i < rowCap → T (isEmpty (entryAt t i)))
+    → (i : ℕ) → t .rows ≤ i → Blank t i
 blank-past t s b i l = go (decLe rowCap i)
   where
     out : {A : Type 0} (a : List A) (z : A) → length a ≡ rowCap → rowCap ≤ i → getD a i z ≡ z

@@ -119,8 +119,9 @@ module _ (cs : List ℕ) (r : Row) (v : Result) where
       go : Dec (v .count ≡ 0) → T (isMatched cs r v)
       go (yes e) = let q = f .none e in rw (eq-eqb _ _ e) (→nothing v (q .0) (q .1) (q .2))
       go (no n) =
-          rw (ne-eqb _ _ n) (and-T ownTest _ (f .own n)
-          (and-T (areInside cs (v .members) (r .cluster)) _ (and-T belowTest _ (lt→ltb _ _ (f .below)) (f .inner n)) (le→leb _ _ (f .light n))))
+          let marks = and-T belowTest _ (lt→ltb _ _ (f .below)) (f .inner n) in
+          rw (ne-eqb _ _ n)
+          (and-T ownTest _ (f .own n) (and-T (areInside cs (v .members) (r .cluster)) _ marks (le→leb _ _ (f .light n))))
 
 -- ---- a count that isn't zero, as the code tests it
 abbrev pub matchedTests : List ℕ → ℕ → ℕ → Fields → Bool

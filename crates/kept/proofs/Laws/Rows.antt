@@ -1,78 +1,62 @@
 -- Looking up rows.
---     isClusterAt, among-more, among-found     the search, one place after another
---     placeOf-at, placeOf-le, placeOf-lt     the row of a cluster has it; a cluster of one of the rows has its place below their number
+--     isClusterAt          the test of one place
+--     placeOf-at           the row of a cluster has it
 --     hasRow-is            a cluster has a row exactly where its place is below the number of rows
 --     union-more           the union of the first clusters, one more
 -- Assumes nothing.
-use mathlib.Core.Path.{_≡_, refl, sym, ap, _∙_, subst}
-use mathlib.Core.Logic.{_≢_}
-use mathlib.Core.Bool.{Bool, true, false}
-use mathlib.Core.List.{List, List·Memᴰ}
-use Prim.Native.Nat.{ℕ, _+_, _-_, _≤_, _<_}
-use native.Mathlib.Decide.{decLt}
+use mathlib.Core.Path.{_≡_, sym, ap, _∙_, subst}
+use mathlib.Core.Logic.{_⊎_, inl, inr, _↔_}
+use mathlib.Core.Bool.{Bool}
+use mathlib.Core.List.{List}
+use Prim.Native.Nat.{ℕ, _+_, _≤_, _<_}
 use native.Mathlib.Nat.{min-eq-left}
 use native.Mathlib.Numerals.{add-one}
 use native.Mathlib.Omega.{arith}
 use borrow.Author.Tests.{eq-eqb, eqb-true}
 use lib.Bits.{bitOr, or-comm}
-use lib.Dec.{T, eqb, ltb, ltb→lt, lt→ltb}
+use lib.Dec.{T, eqb, ltb, ltb→lt}
 use lib.ListN.{getD}
 use Rattle.laws.specs.Cluster.{unionOf}
-use Rattle.laws.specs.Lists.{elem, firstFrom}
+use Rattle.laws.specs.Lists.{elem}
 use Rattle.laws.specs.Limits.{rowCap}
-use Rattle.laws.proofs.Down.{down-mem, mem-down}
-use Rattle.laws.proofs.First.{first-low, first-high, first-before, first-at}
-use Rattle.laws.proofs.Keep.{elem→, →elem}
-use Rattle.laws.proofs.Tests.{bool-ext}
+use Rattle.laws.proofs.Down.{elem-down-iff}
+use Rattle.laws.proofs.First.{first-at, unfound-iff}
+use Rattle.laws.proofs.Tests.{bool-ext, T-dec}
 use Rattle.kept.specs.declared.table.Table.{Table}
 use Rattle.kept.specs.View.{clustersDown}
-use Rattle.kept.specs.Rows.{shownRows, placeAmong, placeOf, hasRow}
+use Rattle.kept.specs.Rows.{placeAmong, placeOf, hasRow}
 use Rattle.kept.proofs.Laws.Clusters.{clusters-are}
 
--- the test of one place
 abbrev pub isClusterAt : List ℕ → ℕ → ℕ → Bool
 isClusterAt cs c i = eqb (getD cs i 0) c
 
--- ---- in a table with no more than 128 rows
+-- ---- in a table with no more rows than there is room for
 module _ (t : Table) (capped : t .rows ≤ rowCap) (c : ℕ) where
   shown : placeOf t c ≡ placeAmong (t .clusters) (t .rows) c
   shown = ap (λ (n : ℕ). placeAmong (t .clusters) n c) (min-eq-left capped)
-
-  pub placeOf-le : placeOf t c ≤ t .rows
-  placeOf-le = rw shown (omega (arith, first-high (isClusterAt (t .clusters) c) 0 (t .rows)))
 
   pub placeOf-at : placeOf t c < t .rows → getD (t .clusters) (placeOf t c) 0 ≡ c
   placeOf-at h =
       let l = subst (λ (p : ℕ). p < t .rows) shown h in
       rw shown (eqb-true _ _ (first-at (isClusterAt (t .clusters) c) 0 (t .rows) (omega arith)))
 
-  pub placeOf-lt : (i : ℕ) → i < t .rows → getD (t .clusters) i 0 ≡ c → placeOf t c < t .rows
-  placeOf-lt i h e = go (decLt (placeOf t c) (t .rows))
-    where
-      passed-by : t .rows ≤ placeOf t c → isClusterAt (t .clusters) c i ≡ false
-      passed-by n =
-          let l : i < placeAmong (t .clusters) (t .rows) c = omega (arith, sym shown) in
-          first-before (isClusterAt (t .clusters) c) 0 (t .rows) i (omega arith) l
-
-      go : Dec (placeOf t c < t .rows) → placeOf t c < t .rows
-      go (yes l) = l
-      go (no n) = absurd (subst T (sym (eq-eqb _ _ e) ∙ passed-by (omega arith)) tt)
-
   pub hasRow-is : hasRow t c ≡ ltb (placeOf t c) (t .rows)
   hasRow-is =
       ap (elem c) (clusters-are t (t .rows))
-      ∙ bool-ext (elem c cs) (ltb (placeOf t c) (t .rows)) (λ h. lt→ltb _ _ (found (elem→ c cs h))) back
+      ∙ bool-ext (elem c (clustersDown (t .clusters) (t .rows))) isFound (λ h. found (one-of .0 h) (T-dec isFound))
+      (λ h. let l = ltb→lt (placeOf t c) (t .rows) h in one-of .1 (placeOf t c, l, sym (placeOf-at l)))
     where
-      cs : List ℕ
-      cs = clustersDown (t .clusters) (t .rows)
+      isFound : Bool
+      isFound = ltb (placeOf t c) (t .rows)
 
-      found : List·Memᴰ c cs → placeOf t c < t .rows
-      found m = let q = mem-down (λ (i : ℕ). getD (t .clusters) i 0) (t .rows) c m in placeOf-lt (q .0) (q .1) (sym (q .2))
+      one-of : T (elem c (clustersDown (t .clusters) (t .rows))) ↔ ((j : ℕ) × (j < t .rows) × (c ≡ getD (t .clusters) j 0))
+      one-of = elem-down-iff (λ (j : ℕ). getD (t .clusters) j 0) (t .rows) c
 
-      back : T (ltb (placeOf t c) (t .rows)) → T (elem c cs)
-      back h =
-          let l = ltb→lt (placeOf t c) (t .rows) h in
-          →elem c cs (subst (λ (x : ℕ). List·Memᴰ x cs) (placeOf-at l) (down-mem (λ (i : ℕ). getD (t .clusters) i 0) (t .rows) (placeOf t c) l))
+      found : (j : ℕ) × (j < t .rows) × (c ≡ getD (t .clusters) j 0) → T isFound ⊎ (T isFound → ⊥) → T isFound
+      found q (inl h) = h
+      found q (inr n) =
+          let none = unfound-iff (isClusterAt (t .clusters) c) (t .rows) .0 (subst (λ (p : ℕ). T (ltb p (t .rows)) → ⊥) shown n) in
+          absurd (subst T (sym (eq-eqb _ _ (sym (q .2))) ∙ none (q .0) (q .1)) tt)
 
 -- ---- unions
 pub union-more : (cs : List ℕ) (i : ℕ) → bitOr (unionOf (clustersDown cs i)) (getD cs i 0) ≡ unionOf (clustersDown cs (i + 1))

@@ -5,18 +5,19 @@
 -- Assumes nothing.
 use mathlib.Core.Path.{_≡_, refl, sym, ap₂, _∙_}
 use mathlib.Core.List.{List, [], _∷_}
-use Prim.Native.Nat.{ℕ, zero, suc, _+_, _-_, _*_, _/_, _%_, _≤_, _<_}
+use Prim.Native.Nat.{ℕ, _+_, _-_, _*_, _/_, _%_, _≤_, _<_}
 use native.Mathlib.Omega.{arith}
 use lib.IntN.{pos}
 use lib.ListN.{getD, length}
+use Rattle.laws.specs.Column.{column}
 use Rattle.laws.specs.Limits.{rowCap, wordValues}
+use Rattle.laws.proofs.Column.{length-column, column-past, column-first, column-rest, column-is}
 use Rattle.laws.proofs.Down.{down-length, down-ext}
 use Rattle.trees.specs.Rows.{Entry}
 use Rattle.trees.specs.Result.{Result}
 use Rattle.kept.specs.declared.table.Table.{Table}
 use Rattle.kept.specs.View.{entryAt, entriesOf, tableOf}
 use Rattle.kept.specs.Arrays.{Sized}
-use Rattle.kept.proofs.Laws.Column.{length-column, column-past, column-first, column-rest, column-is}
 use Rattle.kept.proofs.Laws.Blank.{Blank}
 
 -- ---- a table is the table of its rows
@@ -32,21 +33,23 @@ pub table-is : (t : Table) → Sized t → t .rows ≤ rowCap → ((i : ℕ) →
 table-is t s h w b = λ i. record {
   degree = t .degree;
   rows = sym (down-length (entryAt t) (t .rows)) i;
-  clusters = column-is 0 (λ (e : Entry Result). e .row .cluster) (t .clusters) t n (s .clusters) h (λ j l. refl) (λ j l. b j l .cluster) i;
-  weights = column-is (pos 0) (λ (e : Entry Result). e .row .weight) (t .weights) t n (s .weights) h (λ j l. refl) (λ j l. b j l .weight) i;
-  states = column-is 0 (λ (e : Entry Result). e .row .state) (t .states) t n (s .states) h (λ j l. refl) (λ j l. b j l .state) i;
-  lengths = column-is 0 (λ (e : Entry Result). e .val .length) (t .lengths) t n (s .lengths) h (λ j l. refl) (λ j l. b j l .length) i;
-  counts = column-is 0 (λ (e : Entry Result). e .val .count) (t .counts) t n (s .counts) h (λ j l. refl) (λ j l. b j l .count) i;
-  marks = column-is 0 (λ (e : Entry Result). e .val .mark) (t .marks) t n (s .marks) h (λ j l. refl) (λ j l. b j l .mark) i;
-  bests = column-is (pos 0) (λ (e : Entry Result). e .val .best) (t .bests) t n (s .bests) h (λ j l. refl) (λ j l. b j l .best) i;
-  «members_low» = column-is 0 (λ (e : Entry Result). e .val .members % wordValues) (t .«members_low») t n (s .lows) h
+  clusters = is-column 0 (λ e. e .row .cluster) (t .clusters) (s .clusters) (λ j l. refl) (λ j l. b j l .cluster) i;
+  weights = is-column (pos 0) (λ e. e .row .weight) (t .weights) (s .weights) (λ j l. refl) (λ j l. b j l .weight) i;
+  states = is-column 0 (λ e. e .row .state) (t .states) (s .states) (λ j l. refl) (λ j l. b j l .state) i;
+  lengths = is-column 0 (λ e. e .val .length) (t .lengths) (s .lengths) (λ j l. refl) (λ j l. b j l .length) i;
+  counts = is-column 0 (λ e. e .val .count) (t .counts) (s .counts) (λ j l. refl) (λ j l. b j l .count) i;
+  marks = is-column 0 (λ e. e .val .mark) (t .marks) (s .marks) (λ j l. refl) (λ j l. b j l .mark) i;
+  bests = is-column (pos 0) (λ e. e .val .best) (t .bests) (s .bests) (λ j l. refl) (λ j l. b j l .best) i;
+  «members_low» = is-column 0 (λ e. e .val .members % wordValues) (t .«members_low») (s .lows)
       (λ j l. sym (low-part (getD (t .«members_low») j 0) (getD (t .«members_high») j 0) (w j l))) (λ j l. b j l .low) i;
-  «members_high» = column-is 0 (λ (e : Entry Result). e .val .members / wordValues) (t .«members_high») t n (s .highs) h
+  «members_high» = is-column 0 (λ e. e .val .members / wordValues) (t .«members_high») (s .highs)
       (λ j l. sym (high-part (getD (t .«members_low») j 0) (getD (t .«members_high») j 0) (w j l))) (λ j l. b j l .high) i;
 }
   where
-    n : ℕ
-    n = t .rows
+    is-column : {A : Type 0} (z : A) (f : Entry Result → A) (l : List A) → length l ≡ rowCap
+        → ((i : ℕ) → i < t .rows → getD l i z ≡ f (entryAt t i)) → ((i : ℕ) → t .rows ≤ i → getD l i z ≡ z)
+        → l ≡ column z f (entriesOf t (t .rows))
+    is-column z f l long = column-is z f l (entryAt t) (t .rows) long h
 
 -- ---- the rows of the table of rows
 

@@ -11,10 +11,11 @@ use Prim.Native.Nat.{ℕ, _^_, _<_}
 use native.Mathlib.Nat.{min-le-left, lt-of-lt-of-le}
 use lib.Dec.{T}
 use lib.ListN.{getD}
-use Rattle.laws.specs.Limits.{Width, WidthFacts, rowCap}
+use Rattle.laws.specs.Limits.{Width, rowCap}
 use Rattle.laws.specs.Lists.{Once, Falling}
 use Rattle.laws.specs.Row.{isScored}
 use Rattle.laws.specs.State.{scored}
+use Rattle.laws.specs.Widths.{WidthFacts}
 use Rattle.laws.proofs.Appended.{once-reverse}
 use Rattle.laws.proofs.Falling.{falling-once}
 use Rattle.laws.proofs.Keep.{every→}

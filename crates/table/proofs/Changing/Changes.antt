@@ -1,7 +1,6 @@
 -- A list changed once and again (`specs/Changes.antt`): which changes are taken, and that an accepted list stays accepted.
 --     taken-iff, taken-place, place-cluster     when a change is taken, and which record it names
---     AcceptedBytes l d               l is accepted, and of bytes
---     change-accepted, changes-accepted     and stays so
+--     change-accepted, changes-accepted         an accepted list of bytes stays so
 -- Assumes nothing.
 use mathlib.Core.Path.{_≡_, sym}
 use mathlib.Core.Logic.{_↔_}
@@ -12,70 +11,63 @@ use native.Mathlib.Decide.{decLt}
 use native.Mathlib.Omega.{arith}
 use borrow.Author.Tests.{eqb-true, eqb-false}
 use lib.Dec.{T, eqb, ltb, ltb→lt, lt→ltb}
+use Rattle.laws.specs.Limits.{Width}
 use Rattle.laws.specs.Row.{Row}
-use Rattle.laws.proofs.Tests.{T-and, and-T}
-use Rattle.table.specs.Listing.{recordsIn, rowIn}
-use Rattle.table.specs.Rescore.{isScore}
-use Rattle.table.specs.Changes.{HasCluster, firstPlace, isTaken, changedBytes, changeOne, changeAll}
-use Rattle.table.proofs.Laws.Accepted.{Accepted}
-use Rattle.table.proofs.Changing.Changed.{changed-bytes, changed-accepted}
-use Rattle.table.proofs.Changing.Rewritten.{Bytes}
+use Rattle.laws.specs.Widths.{WidthFacts}
 use Rattle.laws.proofs.First.{first-before, first-at}
+use Rattle.laws.proofs.Tests.{T-and, and-T}
+use Rattle.cluster.specs.Rule.{isScore}
+use Rattle.lists.specs.Accepted.{HasCluster}
+use Rattle.lists.specs.Records.{recordsIn, listedAt}
+use Rattle.table.specs.Changes.{AcceptedBytes, firstPlace, isTaken, changedBytes, changeOne, changeAll}
+use Rattle.table.proofs.Changing.Changed.{changed-bytes, changed-accepted}
 
-module _ (l : List ℕ) (c : ℕ) where
+module _ (W : Width) (l : List ℕ) (c : ℕ) where
   abbrev named : ℕ → Bool
-  named i = eqb (rowIn l i .cluster) c
+  named i = eqb (listedAt W l i .cluster) c
 
-  pub place-cluster : firstPlace l c < recordsIn l → c ≡ rowIn l (firstPlace l c) .cluster
-  place-cluster h = sym (eqb-true _ _ (first-at named 0 (recordsIn l) (omega arith)))
+  pub place-cluster : firstPlace W l c < recordsIn W l → c ≡ listedAt W l (firstPlace W l c) .cluster
+  place-cluster h = sym (eqb-true _ _ (first-at named 0 (recordsIn W l) (omega arith)))
 
-  has-place : HasCluster l c → firstPlace l c < recordsIn l
-  has-place q = go (decLt (firstPlace l c) (recordsIn l))
+  has-place : HasCluster W l c → firstPlace W l c < recordsIn W l
+  has-place q = go (decLt (firstPlace W l c) (recordsIn W l))
     where
-      go : Dec (firstPlace l c < recordsIn l) → firstPlace l c < recordsIn l
+      go : Dec (firstPlace W l c < recordsIn W l) → firstPlace W l c < recordsIn W l
       go (yes h) = h
-      go (no n) = absurd (eqb-false _ _ (first-before named 0 (recordsIn l) (q .0) (omega arith) (omega (arith, q .1))) (sym (q .2)))
+      go (no n) = absurd (eqb-false _ _ (first-before named 0 (recordsIn W l) (q .0) (omega arith) (omega (arith, q .1))) (sym (q .2)))
 
-module _ (l : List ℕ) (x : Row) where
-  pub taken-place : T (isTaken l x) → (firstPlace l (x .cluster) < recordsIn l) × T (isScore (x .weight) (x .state))
+module _ (W : Width) (l : List ℕ) (x : Row) where
+  pub taken-place : T (isTaken W l x) → (firstPlace W l (x .cluster) < recordsIn W l) × T (isScore (x .weight) (x .state))
   taken-place h =
-      let q = T-and (ltb (firstPlace l (x .cluster)) (recordsIn l)) (isScore (x .weight) (x .state)) h in
+      let q = T-and (ltb (firstPlace W l (x .cluster)) (recordsIn W l)) (isScore (x .weight) (x .state)) h in
       (ltb→lt _ _ (q .0), q .1)
 
-  pub taken-iff : T (isTaken l x) ↔ (HasCluster l (x .cluster) × T (isScore (x .weight) (x .state)))
+  pub taken-iff : T (isTaken W l x) ↔ (HasCluster W l (x .cluster) × T (isScore (x .weight) (x .state)))
   taken-iff = (to, from)
     where
-      to : T (isTaken l x) → HasCluster l (x .cluster) × T (isScore (x .weight) (x .state))
-      to h = let q = taken-place h in ((firstPlace l (x .cluster), q .0, place-cluster l (x .cluster) (q .0)), q .1)
+      to : T (isTaken W l x) → HasCluster W l (x .cluster) × T (isScore (x .weight) (x .state))
+      to h = let q = taken-place h in ((firstPlace W l (x .cluster), q .0, place-cluster W l (x .cluster) (q .0)), q .1)
 
-      from : HasCluster l (x .cluster) × T (isScore (x .weight) (x .state)) → T (isTaken l x)
+      from : HasCluster W l (x .cluster) × T (isScore (x .weight) (x .state)) → T (isTaken W l x)
       from k =
-          and-T (ltb (firstPlace l (x .cluster)) (recordsIn l)) (isScore (x .weight) (x .state))
-          (lt→ltb _ _ (has-place l (x .cluster) (k .0))) (k .1)
+          and-T (ltb (firstPlace W l (x .cluster)) (recordsIn W l)) (isScore (x .weight) (x .state))
+          (lt→ltb _ _ (has-place W l (x .cluster) (k .0))) (k .1)
 
--- what holds of a list and, where a change is taken, of the list changed
-module _ (P : List ℕ → Type 0) (l : List ℕ) (x : Row) where
-  change-by : P l → (T (isTaken l x) → P (changedBytes l (firstPlace l (x .cluster)) (x .weight) (x .state))) → P (changeOne l x)
-  change-by p q = go (isTaken l x) q
+module _ {W : Width} (facts : WidthFacts W) where
+  pub change-accepted : {l : List ℕ} (x : Row) → AcceptedBytes W l → AcceptedBytes W (changeOne W l x)
+  change-accepted {l} x k = go (isTaken W l x) (taken-place W l x)
     where
-      go : (b : Bool) → (T b → P (changedBytes l (firstPlace l (x .cluster)) (x .weight) (x .state)))
-          → P (cond b (changedBytes l (firstPlace l (x .cluster)) (x .weight) (x .state)) l)
-      go true f = f tt
-      go false f = p
+      after : List ℕ
+      after = changedBytes W l (firstPlace W l (x .cluster)) (x .weight) (x .state)
 
-pub record AcceptedBytes (l : List ℕ) (d : ℕ) : Type 0 where
-  pub byte : Bytes l
-  pub accepted : Accepted l d
+      go : (b : Bool) → (T b → (firstPlace W l (x .cluster) < recordsIn W l) × T (isScore (x .weight) (x .state)))
+          → AcceptedBytes W (cond b after l)
+      go true f = record {
+        byte = changed-bytes facts l (k .byte) (firstPlace W l (x .cluster)) (x .weight) (x .state) (f tt .0) (f tt .1);
+        accepted = changed-accepted facts (k .byte) (k .accepted) (firstPlace W l (x .cluster)) (x .weight) (x .state) (f tt .0) (f tt .1);
+      }
+      go false f = k
 
-pub change-accepted : (l : List ℕ) (d : ℕ) (x : Row) → AcceptedBytes l d → AcceptedBytes (changeOne l x) d
-change-accepted l d x k = change-by (λ (m : List ℕ). AcceptedBytes m d) l x k (λ h.
-    let q = taken-place l x h in
-    let i = firstPlace l (x .cluster) in
-    record {
-      byte = changed-bytes l (k .byte) i (x .weight) (x .state) (q .0) (q .1);
-      accepted = changed-accepted l d (k .byte) (k .accepted) i (x .weight) (x .state) (q .0) (q .1);
-    })
-
-pub changes-accepted : (l : List ℕ) (d : ℕ) (xs : List Row) → AcceptedBytes l d → AcceptedBytes (changeAll l xs) d
-changes-accepted l d [] k = k
-changes-accepted l d (x ∷ xs) k = changes-accepted (changeOne l x) d xs (change-accepted l d x k)
+  pub changes-accepted : {l : List ℕ} (xs : List Row) → AcceptedBytes W l → AcceptedBytes W (changeAll W l xs)
+  changes-accepted [] k = k
+  changes-accepted (x ∷ xs) k = changes-accepted xs (change-accepted x k)

@@ -1,20 +1,13 @@
--- A part of a list rewritten, and that bytes stay bytes. For `Changed.antt`.
+-- A part of a list rewritten. For `Changed.antt`.
 --     put l v p n                                    l with v in the place of the n elements from place p on
 --     put-length, put-same, put-before, put-after    as long as l; that part is v; parts before it and behind it are those of l
---     Bytes l                                        every element is a byte
---     append-bytes, take-bytes, drop-bytes, record-bytes     bytes put together, taken apart, and those of a record
 -- Assumes nothing.
 use mathlib.Core.Path.{_≡_, sym, ap, _∙_}
-use mathlib.Core.List.{List, [], _∷_, _++_, append-assoc}
-use Prim.Native.Nat.{ℕ, zero, suc, _+_, _-_, _/_, _≤_, _<_}
+use mathlib.Core.List.{List, _++_, append-assoc}
+use Prim.Native.Nat.{ℕ, _+_, _-_, _≤_}
 use native.Mathlib.Omega.{arith}
-use lib.ListN.{length, getD, take, drop, length-append, length-drop, take-append-drop}
-use lib.Seq.{length-take-le, take-at, drop-at, take-append-le, drop-append-le, drop-append-add, drop-drop, getD-drop}
-use mir.Syntax.{w32}
-use mir.Val.{ofZ}
-use Rattle.cluster.specs.declared.record.Record.{Record}
-use Rattle.cluster.specs.Bytes.{byteValues, wordBytes, lowFirst}
-use Rattle.cluster.specs.Record.{bytesOf, spareBytes}
+use lib.ListN.{length, take, drop, length-append, length-drop, take-append-drop}
+use lib.Seq.{length-take-le, take-at, drop-at, take-append-le, drop-append-le, drop-append-add, drop-drop}
 
 -- ---- a part of a list rewritten
 
@@ -60,38 +53,3 @@ module _ {A : Type 0} where
         ∙ drop-append-add front (drop (p + n) l) (k - (p + n))
         ∙ drop-drop (k - (p + n)) (p + n) l
         ∙ ap (λ (j : ℕ). drop j l) back)
-
--- ---- bytes
-
-abbrev pub Bytes : List ℕ → Type 0
-Bytes l = (i : ℕ) → getD l i 0 < byteValues
-
-pub append-bytes : (l m : List ℕ) → Bytes l → Bytes m → Bytes (l ++ m)
-append-bytes [] m a b i = b i
-append-bytes (x ∷ l) m a b zero = a 0
-append-bytes (x ∷ l) m a b (suc i) = append-bytes l m (λ j. a (suc j)) b i
-
-pub take-bytes : (n : ℕ) (l : List ℕ) → Bytes l → Bytes (take n l)
-take-bytes zero l a i = omega arith
-take-bytes (suc n) [] a i = omega arith
-take-bytes (suc n) (x ∷ l) a zero = a 0
-take-bytes (suc n) (x ∷ l) a (suc i) = take-bytes n l (λ j. a (suc j)) i
-
-pub drop-bytes : (n : ℕ) (l : List ℕ) → Bytes l → Bytes (drop n l)
-drop-bytes n l a i = rw (getD-drop n l i 0) (a (n + i))
-
-low-bytes : (k n : ℕ) → Bytes (lowFirst k n)
-low-bytes zero n i = omega arith
-low-bytes (suc k) n zero = omega arith
-low-bytes (suc k) n (suc i) = low-bytes k (n / byteValues) i
-
-pub record-bytes : (r : Record) → r .state < byteValues → Bytes (bytesOf r)
-record-bytes r h =
-    append-bytes (lowFirst wordBytes (r .cluster) ++ lowFirst wordBytes (ofZ w32 (r .weight))) (r .state ∷ lowFirst spareBytes 0)
-    (append-bytes (lowFirst wordBytes (r .cluster)) (lowFirst wordBytes (ofZ w32 (r .weight)))
-    (low-bytes wordBytes (r .cluster)) (low-bytes wordBytes (ofZ w32 (r .weight))))
-    (first (low-bytes spareBytes 0))
-  where
-    first : Bytes (lowFirst spareBytes 0) → Bytes (r .state ∷ lowFirst spareBytes 0)
-    first b zero = h
-    first b (suc i) = b i

@@ -18,23 +18,24 @@ use lib.IntN.{ℤ, pos}
 use lib.ListN.{getD, set, length-set}
 use lib.Seq.{getD-set-same, getD-set-other}
 use Rattle.laws.specs.Cluster.{inside}
-use Rattle.laws.specs.Limits.{narrow, rowCap, wordValues}
+use Rattle.laws.specs.Limits.{Width, rowCap, wordValues}
+use Rattle.laws.specs.Widths.{WidthFacts}
 use Rattle.laws.proofs.Cluster.{inside-refl}
-use Rattle.laws.proofs.Width.{narrow-facts}
+use Rattle.cluster.specs.Rule.{isScore, keepsRules}
 use Rattle.trees.specs.Rows.{Entry}
 use Rattle.trees.specs.Result.{Result}
 use Rattle.trees.specs.Rescored.{putScore, workedOut, again}
 use Rattle.kept.specs.declared.table.Table.{Table}
-use Rattle.kept.specs.View.{rowAt, entryAt, entriesOf, tableOf}
-use Rattle.kept.specs.Fit.{keepsRules, fitEntry, isFit}
+use Rattle.kept.specs.View.{rowAt, entryAt, entriesOf, clustersIn, tableOf}
+use Rattle.kept.specs.Fit.{fitEntry, isFit}
 use Rattle.kept.specs.Rows.{placeOf, hasRow}
 use Rattle.kept.specs.Arrays.{Sized}
 use Rattle.kept.specs.Blank.{isEmpty}
 use Rattle.kept.proofs.Laws.Fit.{FitTable, isFit→, fit-rules}
 use Rattle.kept.proofs.Laws.Clusters.{clusters-are}
 use Rattle.kept.proofs.Laws.Rows.{hasRow-is, placeOf-at}
-use Rattle.table.specs.Rescore.{isScore, newTable}
-use Rattle.table.specs.Working.{clustersOf, againTable, Workable}
+use Rattle.table.specs.Rescore.{newTable}
+use Rattle.table.specs.Working.{againTable, Workable}
 use Rattle.table.proofs.Fitting.FitTables.{put-rules}
 
 -- ---- the row of the cluster, as the code looks it up
@@ -89,13 +90,13 @@ module _ (t : Table) (i : ℕ) (z : ℤ) (s : ℕ) where
     val = entryAt t j .val;
   }
 
-module _ (t : Table) (c : ℕ) (z : ℤ) (s : ℕ) (sized : Sized t) (fit : T (isFit narrow t)) (i : ℕ) (place : i < t .rows)
-    (found : getD (t .clusters) i 0 ≡ c) where
+module _ (W : Width) (facts : WidthFacts W) (t : Table) (c : ℕ) (z : ℤ) (s : ℕ) (sized : Sized t) (fit : T (isFit W t))
+    (i : ℕ) (place : i < t .rows) (found : getD (t .clusters) i 0 ≡ c) where
   abbrev new : Table
   new = withScore t i z s
 
-  facts : FitTable narrow t
-  facts = isFit→ narrow narrow-facts t fit
+  known : FitTable W t
+  known = isFit→ W facts t fit
 
   abbrev putE : Entry Result → Entry Result
   putE e = record { row = putScore c z s (e .row); val = e .val }
@@ -105,8 +106,8 @@ module _ (t : Table) (c : ℕ) (z : ℤ) (s : ℕ) (sized : Sized t) (fit : T (i
   only j h n e = go (decLt j i)
     where
       go : Dec (j < i) → ⊥
-      go (yes l) = omega (arith, facts .rising j i l place, e, found)
-      go (no l) = omega (arith, facts .rising i j (omega arith) h, e, found)
+      go (yes l) = omega (arith, known .rising j i l place, e, found)
+      go (no l) = omega (arith, known .rising i j (omega arith) h, e, found)
 
   score-entry : (j : ℕ) → j < t .rows → entryAt new j ≡ putE (entryAt t j)
   score-entry j h = go (ℕ-discrete j i)
@@ -123,7 +124,7 @@ module _ (t : Table) (c : ℕ) (z : ℤ) (s : ℕ) (sized : Sized t) (fit : T (i
       go : Dec (j ≡ i) → entryAt new j ≡ put (lib.Dec.eqb (getD (t .clusters) j 0) c)
       go (yes e) =
           subst (λ (n : ℕ). entryAt new n ≡ scored n) (sym e)
-          (score-same t i z s sized (omega (arith, facts .capped)))
+          (score-same t i z s sized (omega (arith, known .capped, facts .rows)))
           ∙ ap put (sym (eq-eqb (getD (t .clusters) j 0) c (ap (λ (n : ℕ). getD (t .clusters) n 0) e ∙ found)))
       go (no n) = score-other t i z s j n ∙ ap put (sym (ne-eqb (getD (t .clusters) j 0) c (only j h n)))
 
@@ -132,14 +133,17 @@ module _ (t : Table) (c : ℕ) (z : ℤ) (s : ℕ) (sized : Sized t) (fit : T (i
   score-entries (suc n) h =
       ap₂ (λ (e : Entry Result) (l : List (Entry Result)). e ∷ l) (score-entry n (omega arith)) (score-entries n (omega arith))
 
-  pub score-again : againTable new c ≡ newTable t c z s
+  score-clusters : clustersIn new ≡ clustersIn t
+  score-clusters = clusters-are new (t .rows) ∙ sym (clusters-are t (t .rows))
+
+  pub score-again : againTable W new c ≡ newTable W t c z s
   score-again =
-      ap₂ (λ (cs : List ℕ) (es : List (Entry Result)). tableOf (t .degree) (again (workedOut narrow (t .degree) cs) c es))
-      (sym (clusters-are t (t .rows))) (score-entries (t .rows) (omega arith))
+      ap₂ (λ (cs : List ℕ) (es : List (Entry Result)). tableOf (t .degree) (again (workedOut W (t .degree) cs) c es))
+      score-clusters (score-entries (t .rows) (omega arith))
 
   -- as the code has it: the weight through its bits
-  pub score-done : (w : ℤ) → w ≡ z → (u : Table) → u ≡ againTable (withScore t i w s) c → u ≡ newTable t c z s
-  score-done w e u q = q ∙ ap (λ (v : ℤ). againTable (withScore t i v s) c) e ∙ score-again
+  pub score-done : (w : ℤ) → w ≡ z → (u : Table) → u ≡ againTable W (withScore t i w s) c → u ≡ newTable W t c z s
+  score-done w e u q = q ∙ ap (λ (v : ℤ). againTable W (withScore t i v s) c) e ∙ score-again
 
   score-sized : Sized new
   score-sized = record {
@@ -154,32 +158,30 @@ module _ (t : Table) (c : ℕ) (z : ℤ) (s : ℕ) (sized : Sized t) (fit : T (i
     highs = sized .highs;
   }
 
-  given-fit : (j : ℕ) → j < t .rows → T (fitEntry narrow (clustersOf t) (entryAt t j))
-  given-fit j h = subst (λ (cs : List ℕ). T (fitEntry narrow cs (entryAt t j))) (clusters-are t (t .rows)) (facts .fit j h)
-
-  score-rules : T (isScore z s) → (j : ℕ) → j < t .rows → T (keepsRules narrow (rowAt new j))
+  score-rules : T (isScore z s) → (j : ℕ) → j < t .rows → T (keepsRules W (rowAt new j))
   score-rules k j h =
-      subst (λ (e : Entry Result). T (keepsRules narrow (e .row))) (sym (score-entry j h))
-      (put-rules c z s k (rowAt t j) (fit-rules narrow (clustersOf t) (entryAt t j) (given-fit j h)))
+      subst (λ (e : Entry Result). T (keepsRules W (e .row))) (sym (score-entry j h))
+      (put-rules W c z s k (rowAt t j) (fit-rules W (clustersIn t) (entryAt t j) (known .fit j h)))
 
   -- a row that doesn't contain c isn't the row of c
-  score-fit : (j : ℕ) → j < t .rows → (T (inside c (getD (t .clusters) j 0)) → ⊥) → T (fitEntry narrow (clustersOf new) (entryAt new j))
+  score-fit : (j : ℕ) → j < t .rows → (T (inside c (getD (t .clusters) j 0)) → ⊥) → T (fitEntry W (clustersIn new) (entryAt new j))
   score-fit j h n =
       let at : j ≡ i → getD (t .clusters) j 0 ≡ c = λ e. ap (λ (m : ℕ). getD (t .clusters) m 0) e ∙ found in
       let other : j ≢ i = λ e. n (subst (λ (x : ℕ). T (inside c x)) (sym (at e)) (inside-refl c)) in
-      subst (λ (e : Entry Result). T (fitEntry narrow (clustersOf t) e)) (sym (score-other t i z s j other)) (given-fit j h)
+      subst (λ (cs : List ℕ). T (fitEntry W cs (entryAt new j))) (sym score-clusters)
+      (subst (λ (e : Entry Result). T (fitEntry W (clustersIn t) e)) (sym (score-other t i z s j other)) (known .fit j h))
 
-  pub score-workable : T (isScore z s) → ((j : ℕ) → j < t .rows → getD (t .«members_low») j 0 < wordValues) → Workable new c
+  pub score-workable : T (isScore z s) → ((j : ℕ) → j < t .rows → getD (t .«members_low») j 0 < wordValues) → Workable W new c
   score-workable k words = record {
-    some = facts .some;
-    capped = facts .capped;
+    filled = known .some;
+    capped = known .capped;
     sized = score-sized;
-    low = facts .low;
-    high = facts .high;
-    rising = record { long = omega (arith, sized .clusters, facts .capped); up = facts .rising };
+    low = known .low;
+    high = known .high;
+    rising = record { long = omega (arith, sized .clusters, known .capped, facts .rows); up = known .rising };
     rules = score-rules k;
     fit = score-fit;
     words = words;
     blank = λ j l m.
-        subst (λ (e : Entry Result). T (isEmpty e)) (sym (score-other t i z s j (λ e. omega arith))) (facts .blank j l m);
+        subst (λ (e : Entry Result). T (isEmpty e)) (sym (score-other t i z s j (λ e. omega arith))) (known .blank j l m);
   }

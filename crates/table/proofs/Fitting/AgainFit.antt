@@ -1,7 +1,7 @@
 -- Every row of a table is fit once the rows that contain a cluster are worked out again, if the other rows were fit.
 --     Listed W cs t          rows that fall, keep the record rules, and are among the rows with the clusters cs
 --     again-row, again-length     which rows the table then has
---     again-fit              each of them is fit
+--     again-over, again-fit     each of them may be worked out over those beneath, and is fit
 -- Assumes nothing.
 use mathlib.Core.Path.{_≡_, refl, sym, ap, _∙_, subst}
 use mathlib.Core.Logic.{_⊎_, inl, inr, _≢_}
@@ -14,16 +14,18 @@ use native.Mathlib.Omega.{arith}
 use lib.Dec.{T}
 use lib.ListN.{length}
 use Rattle.laws.specs.Cluster.{inside}
-use Rattle.laws.specs.Limits.{Width, few}
+use Rattle.laws.specs.Limits.{Width}
 use Rattle.laws.specs.Lists.{Falling}
 use Rattle.laws.specs.Row.{Row}
+use Rattle.laws.specs.Widths.{few}
 use Rattle.laws.proofs.Choose.{few-mono}
 use Rattle.laws.proofs.Tests.{T-dec, T-true, T-false}
+use Rattle.cluster.specs.Rule.{keepsRules}
+use Rattle.cluster.proofs.Laws.Rule.{rules→}
 use Rattle.trees.specs.Rows.{Entry, cl}
 use Rattle.trees.specs.Result.{Result}
 use Rattle.trees.specs.Rescored.{workedOut, againIf, again}
-use Rattle.kept.specs.Fit.{keepsRules, fitEntry}
-use Rattle.kept.proofs.Laws.Fit.{rules→}
+use Rattle.kept.specs.Fit.{fitEntry}
 use Rattle.table.proofs.Tallies.Decoded.{good-of-fit}
 use Rattle.table.proofs.Fitting.KeepsFit.{Over, worked-fit}
 
@@ -64,14 +66,14 @@ module _ (W : Width) (one-limit : 1 ≤ W .countMax) (d c : ℕ) (cs : List ℕ)
   F = workedOut W d cs
 
   -- the rows beneath e, as they then stand, may be added up
-  again-over : (e : Entry Result) (t : List (Entry Result)) → Listed W cs (e ∷ t)
+  pub again-over : (e : Entry Result) (t : List (Entry Result)) → Listed W cs (e ∷ t)
       → ((x : Entry Result) → Mem x (again F c t) → T (fitEntry W cs x))
       → Over (W .countMax) cs (e .row) (again F c t)
   again-over e t k f = record {
     falls = falls;
     full = full;
     listed = k .listed e (here refl);
-    light = rules→ W (e .row) (k .rules e (here refl)) .1 .in-range;
+    light = rules→ W (e .row) (k .rules e (here refl)) .1 .score .in-range;
     nonzero = λ x m. let q = again-row F c t x m in
         λ z. full (cl (q .0)) (k .listed (q .0) (there (q .1))) (sym (ap (λ (r : Row). r .cluster) (q .2)) ∙ z);
     less = λ x m. let q = again-row F c t x m in

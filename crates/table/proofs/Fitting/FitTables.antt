@@ -1,70 +1,69 @@
 -- Which tables are fit: a built table, and a fit table rescored (document 01, "The table").
---     InTable d es P         es may be the rows of a table with the degree bound d, and P holds of each
+--     InTable W d es P       es may be the rows of a table with the degree bound d, and P holds of each
 --     carried                so may rows with the same clusters
 --     table-fit              the table of fit rows is fit
 --     again-table-fit        so is that of rows worked out again
 --     rescored-fit           a fit table, rescored, is fit
---     Accepted, built-fit    a built table is fit (`Accepted` is passed on from `Laws/Build.antt`)
+--     built-fit              a built table is fit
 -- Assumes nothing.
 use mathlib.Core.Path.{_≡_, refl, sym, ap, _∙_, subst}
 use mathlib.Core.Logic.{_≢_}
 use mathlib.Core.Bool.{Bool, true, false, cond}
 use mathlib.Core.List.{List, map, Memᴰ·map, Memᴰ·of-map}
 use mathlib.Core.List.{List·Memᴰ as Mem}
-use Prim.Native.Nat.{ℕ, _-_, _^_, _≤_, _<_}
+use Prim.Native.Nat.{ℕ, _-_, _≤_}
 use native.Mathlib.Omega.{arith}
-use lib.Dec.{T, eqb, lit≤}
+use lib.Dec.{T, eqb}
 use lib.IntN.{ℤ}
 use lib.ListN.{length, length-map}
 use Rattle.laws.specs.Cluster.{inside}
-use Rattle.laws.specs.Limits.{narrow, degreeLow, degreeHigh, rowCap}
+use Rattle.laws.specs.Limits.{Width, degreeLow, degreeHigh}
 use Rattle.laws.specs.Lists.{Falling}
 use Rattle.laws.specs.Row.{Row}
+use Rattle.laws.specs.Widths.{WidthFacts}
 use Rattle.laws.proofs.Appended.{map-through}
 use Rattle.laws.proofs.Cluster.{zero-inside}
-use Rattle.cluster.proofs.Laws.Rule.{Keeps, kept→keeps}
+use Rattle.laws.proofs.Down.{down-length, down-mem}
+use Rattle.cluster.specs.Rule.{isScore, keepsRules}
+use Rattle.cluster.proofs.Laws.Rule.{score→keeps, rules→, →rules}
 use Rattle.trees.specs.Rows.{Entry, cl}
 use Rattle.trees.specs.Result.{Result, blank}
 use Rattle.trees.specs.Built.{builtTable}
 use Rattle.trees.specs.Rescored.{putScore, workedOut, again, rescored}
 use Rattle.trees.proofs.Rescore.{put-cluster, put-other, again-clusters}
-use Rattle.laws.proofs.Width.{narrow-facts}
 use Rattle.kept.specs.declared.table.Table.{Table}
 use Rattle.kept.specs.View.{entryAt, entriesOf, tableOf}
-use Rattle.kept.specs.Fit.{keepsRules, fitEntry, isFit}
-use Rattle.table.specs.Arranged.{unworked}
-use Rattle.table.specs.Rescore.{isScore, newTable}
+use Rattle.kept.specs.Fit.{fitEntry, isFit}
+use Rattle.table.specs.Rescore.{newTable}
 use Rattle.table.proofs.Fitting.AgainFit.{Listed, again-fit}
-pub use Rattle.table.proofs.Laws.Build.{Accepted}
-use Rattle.laws.proofs.Down.{down-length, down-mem}
-use Rattle.kept.proofs.Laws.Fit.{recordIn, rules→, →rules, fit-rules, isFit→, →isFit, fit-falls, fit-each, entries-rising}
+use Rattle.kept.proofs.Laws.Fit.{fit-rules, isFit→, →isFit, fit-falls, fit-each, entries-rising}
 use Rattle.kept.proofs.Laws.Blank.{blank→empty}
 use Rattle.kept.proofs.Laws.View.{entries-table, table-past}
-use Rattle.table.proofs.Laws.Build.{unworked-clusters, again-built}
+use Rattle.table.proofs.Laws.Build.{degree-range, Buildable, unworkedRow, unworked-clusters, again-built}
 
 -- ---- rows that may be made a table of
 
-pub record InTable (d : ℕ) (es : List (Entry Result)) (P : Entry Result → Type 0) : Type 0 where
+pub record InTable (W : Width) (d : ℕ) (es : List (Entry Result)) (P : Entry Result → Type 0) : Type 0 where
   pub low : degreeLow ≤ d
   pub high : d ≤ degreeHigh
-  pub some : 1 ≤ length es
-  pub capped : length es ≤ rowCap
+  pub filled : 1 ≤ length es
+  pub capped : length es ≤ W .rows
   pub falls : Falling (map cl es)
   pub each : (e : Entry Result) → Mem e es → P e
 
-abbrev pub FitRows : ℕ → List (Entry Result) → Type 0
-FitRows d es = InTable d es (λ (e : Entry Result). T (fitEntry narrow (map cl es) e))
+abbrev pub FitRows : Width → ℕ → List (Entry Result) → Type 0
+FitRows W d es = InTable W d es (λ (e : Entry Result). T (fitEntry W (map cl es) e))
 
 -- in their order, by the record rules
-abbrev pub Rows : ℕ → List (Entry Result) → Type 0
-Rows d es = InTable d es (λ (e : Entry Result). T (keepsRules narrow (e .row)))
+abbrev pub Rows : Width → ℕ → List (Entry Result) → Type 0
+Rows W d es = InTable W d es (λ (e : Entry Result). T (keepsRules W (e .row)))
 
-carried : (d : ℕ) (es xs : List (Entry Result)) (P Q : Entry Result → Type 0) → map cl xs ≡ map cl es → InTable d es P
-    → ((x : Entry Result) → Mem x xs → Q x) → InTable d xs Q
-carried d es xs P Q same k f = record {
+carried : (W : Width) (d : ℕ) (es xs : List (Entry Result)) (P Q : Entry Result → Type 0) → map cl xs ≡ map cl es → InTable W d es P
+    → ((x : Entry Result) → Mem x xs → Q x) → InTable W d xs Q
+carried W d es xs P Q same k f = record {
   low = k .low;
   high = k .high;
-  some = omega (arith, count, k .some);
+  filled = omega (arith, count, k .filled);
   capped = omega (arith, count, k .capped);
   falls = rw same (k .falls);
   each = f;
@@ -75,11 +74,11 @@ carried d es xs P Q same k f = record {
 
 -- ---- the table of fit rows
 
-pub table-fit : (d : ℕ) (es : List (Entry Result)) → FitRows d es → T (isFit narrow (tableOf d es))
-table-fit d es f = →isFit narrow t (record {
+pub table-fit : (W : Width) (d : ℕ) (es : List (Entry Result)) → FitRows W d es → T (isFit W (tableOf d es))
+table-fit W d es f = →isFit W t (record {
   low = f .low;
   high = f .high;
-  some = f .some;
+  some = f .filled;
   capped = f .capped;
   rising = entries-rising t (rw (entries-table d es) (f .falls));
   fit = λ i l. rw (entries-table d es)
@@ -92,112 +91,105 @@ table-fit d es f = →isFit narrow t (record {
 
 -- ---- rows worked out again
 
-nonzero-rows : (d : ℕ) (es : List (Entry Result)) → Rows d es → (c : ℕ) → Mem c (map cl es) → c ≢ 0
-nonzero-rows d es k c m z =
+nonzero-rows : (W : Width) (d : ℕ) (es : List (Entry Result)) → Rows W d es → (c : ℕ) → Mem c (map cl es) → c ≢ 0
+nonzero-rows W d es k c m z =
     let q = Memᴰ·of-map cl es m in
-    rules→ narrow (q .0 .row) (k .each (q .0) (q .1)) .1 .has-taxon (q .2 ∙ z)
+    rules→ W (q .0 .row) (k .each (q .0) (q .1)) .1 .has-taxon (q .2 ∙ z)
 
-module _ (d c : ℕ) (es : List (Entry Result)) (k : Rows d es) where
+module _ (W : Width) (facts : WidthFacts W) (d c : ℕ) (es : List (Entry Result)) (k : Rows W d es) where
   abbrev F : Row → List (Entry Result) → Result
-  F = workedOut narrow d (map cl es)
+  F = workedOut W d (map cl es)
 
-  again-rows : ((e : Entry Result) → Mem e es → (T (inside c (cl e)) → ⊥) → T (fitEntry narrow (map cl es) e)) → FitRows d (again F c es)
-  again-rows f = carried d es (again F c es) _ _ (again-clusters F c es) k (λ e m. rw (again-clusters F c es) (each e m))
+  again-rows : ((e : Entry Result) → Mem e es → (T (inside c (cl e)) → ⊥) → T (fitEntry W (map cl es) e)) → FitRows W d (again F c es)
+  again-rows f = carried W d es (again F c es) _ _ (again-clusters F c es) k (λ e m. rw (again-clusters F c es) (each e m))
     where
-      listed : Listed narrow (map cl es) es
+      listed : Listed W (map cl es) es
       listed = record { falls = k .falls; listed = λ e m. Memᴰ·map cl m; rules = k .each }
 
-      each : (e : Entry Result) → Mem e (again F c es) → T (fitEntry narrow (map cl es) e)
+      each : (e : Entry Result) → Mem e (again F c es) → T (fitEntry W (map cl es) e)
       each =
-          again-fit narrow (lit≤ tt) d c (map cl es) (k .falls) (nonzero-rows d es k) es listed
-          (narrow-facts .tuples d (length es - 1) (k .high) (omega (arith, k .some, k .capped))) f
+          again-fit W (facts .counts) d c (map cl es) (k .falls) (nonzero-rows W d es k) es listed
+          (facts .tuples d (length es - 1) (k .high) (omega (arith, k .filled, k .capped))) f
 
-  pub again-table-fit : ((e : Entry Result) → Mem e es → (T (inside c (cl e)) → ⊥) → T (fitEntry narrow (map cl es) e))
-      → T (isFit narrow (tableOf d (again F c es)))
-  again-table-fit f = table-fit d (again F c es) (again-rows f)
+  pub again-table-fit : ((e : Entry Result) → Mem e es → (T (inside c (cl e)) → ⊥) → T (fitEntry W (map cl es) e))
+      → T (isFit W (tableOf d (again F c es)))
+  again-table-fit f = table-fit W d (again F c es) (again-rows f)
 
 -- ---- rescored
 
-module _ (c : ℕ) (z : ℤ) (s : ℕ) (score : T (isScore z s)) where
+module _ (W : Width) (c : ℕ) (z : ℤ) (s : ℕ) (score : T (isScore z s)) where
   abbrev withScore : Entry Result → Entry Result
   withScore e = record { row = putScore c z s (e .row); val = e .val }
 
-  pub put-rules : (r : Row) → T (keepsRules narrow r) → T (keepsRules narrow (putScore c z s r))
+  pub put-rules : (r : Row) → T (keepsRules W r) → T (keepsRules W (putScore c z s r))
   put-rules r h = go (eqb (r .cluster) c)
     where
-      q : (r .cluster < 2 ^ narrow .taxa) × Keeps (recordIn r) false
-      q = rules→ narrow r h
-
-      p : Keeps (record { cluster = 1; weight = z; state = s }) false
-      p = kept→keeps (record { cluster = 1; weight = z; state = s }) false score
-
-      go : (b : Bool) → T (keepsRules narrow (cond b (record { cluster = r .cluster; weight = z; state = s }) r))
-      go true = →rules narrow (record { cluster = r .cluster; weight = z; state = s }) (q .0) (record {
-        has-taxon = q .1 .has-taxon;
-        has-state = p .has-state;
-        no-spare = refl;
-        no-weight = p .no-weight;
-        in-range = p .in-range;
-      })
+      go : (b : Bool) → T (keepsRules W (cond b (record { cluster = r .cluster; weight = z; state = s }) r))
+      go true =
+          let q = rules→ W r h in
+          →rules W (record { cluster = r .cluster; weight = z; state = s }) (q .0)
+          (record { has-taxon = q .1 .has-taxon; no-spare = refl; score = score→keeps z s score })
       go false = h
 
   put-clusters : (es : List (Entry Result)) → map cl (map withScore es) ≡ map cl es
   put-clusters = map-through withScore cl cl (λ e. put-cluster c z s (e .row))
 
-  module _ (d : ℕ) (es : List (Entry Result)) (k : FitRows d es) where
-    pub put-rows : Rows d (map withScore es)
-    put-rows = carried d es (map withScore es) _ _ (put-clusters es) k (λ x m.
+  module _ (d : ℕ) (es : List (Entry Result)) (k : FitRows W d es) where
+    pub put-rows : Rows W d (map withScore es)
+    put-rows = carried W d es (map withScore es) _ _ (put-clusters es) k (λ x m.
         let q = Memᴰ·of-map withScore es m in
-        subst (λ (e : Entry Result). T (keepsRules narrow (e .row))) (q .2)
-        (put-rules (q .0 .row) (fit-rules narrow (map cl es) (q .0) (k .each (q .0) (q .1)))))
+        subst (λ (e : Entry Result). T (keepsRules W (e .row))) (q .2)
+        (put-rules (q .0 .row) (fit-rules W (map cl es) (q .0) (k .each (q .0) (q .1)))))
 
     -- the rows that don't contain c stay
     pub put-fit : (x : Entry Result) → Mem x (map withScore es) → (T (inside c (cl x)) → ⊥)
-        → T (fitEntry narrow (map cl (map withScore es)) x)
+        → T (fitEntry W (map cl (map withScore es)) x)
     put-fit x m n =
         let q = Memᴰ·of-map withScore es m in
         let at : cl (q .0) ≡ cl x = sym (put-cluster c z s (q .0 .row)) ∙ ap cl (q .2) in
         let out : T (inside c (cl (q .0))) → ⊥ = λ t. n (subst (λ (y : ℕ). T (inside c y)) at t) in
         let same : q .0 ≡ x = ap (λ (r : Row). record { row = r; val = q .0 .val }) (sym (put-other c z s (q .0 .row) out)) ∙ q .2 in
-        subst (λ (cs : List ℕ). T (fitEntry narrow cs x)) (sym (put-clusters es))
-        (subst (λ (e : Entry Result). T (fitEntry narrow (map cl es) e)) same (k .each (q .0) (q .1)))
+        subst (λ (cs : List ℕ). T (fitEntry W cs x)) (sym (put-clusters es))
+        (subst (λ (e : Entry Result). T (fitEntry W (map cl es) e)) same (k .each (q .0) (q .1)))
 
-    put-table-fit : T (isFit narrow (tableOf d (rescored narrow d (map cl es) c z s es)))
-    put-table-fit =
-        subst (λ (cs : List ℕ). T (isFit narrow (tableOf d (again (workedOut narrow d cs) c (map withScore es))))) (put-clusters es)
-        (again-table-fit d c (map withScore es) put-rows put-fit)
+    put-table-fit : WidthFacts W → T (isFit W (tableOf d (rescored W d (map cl es) c z s es)))
+    put-table-fit facts =
+        subst (λ (cs : List ℕ). T (isFit W (tableOf d (again (workedOut W d cs) c (map withScore es))))) (put-clusters es)
+        (again-table-fit W facts d c (map withScore es) put-rows put-fit)
 
-pub fit-rows : (t : Table) → T (isFit narrow t) → FitRows (t .degree) (entriesOf t (t .rows))
-fit-rows t h =
-    let f = isFit→ narrow narrow-facts t h in
+pub fit-rows : (W : Width) → WidthFacts W → (t : Table) → T (isFit W t) → FitRows W (t .degree) (entriesOf t (t .rows))
+fit-rows W facts t h =
+    let f = isFit→ W facts t h in
     let n = down-length (entryAt t) (t .rows) in
     record {
       low = f .low;
       high = f .high;
-      some = omega (arith, n, f .some);
+      filled = omega (arith, n, f .some);
       capped = omega (arith, n, f .capped);
-      falls = fit-falls narrow t f;
-      each = fit-each narrow t f;
+      falls = fit-falls W t f;
+      each = fit-each W t f;
     }
 
-pub rescored-fit : (t : Table) (c : ℕ) (z : ℤ) (s : ℕ) → T (isFit narrow t) → T (isScore z s) → T (isFit narrow (newTable t c z s))
-rescored-fit t c z s h score = put-table-fit c z s score (t .degree) (entriesOf t (t .rows)) (fit-rows t h)
+pub rescored-fit : (W : Width) → WidthFacts W → (t : Table) (c : ℕ) (z : ℤ) (s : ℕ) → T (isFit W t) → T (isScore z s)
+    → T (isFit W (newTable W t c z s))
+rescored-fit W facts t c z s h score =
+    put-table-fit W c z s score (t .degree) (entriesOf t (t .rows)) (fit-rows W facts t h) facts
 
 -- ---- built
 
-module _ (d : ℕ) (rs : List Row) (k : Accepted d rs) where
-  accepted-rows : Rows d (map unworked rs)
+module _ (W : Width) (facts : WidthFacts W) (d : ℕ) (rs : List Row) (k : Buildable W d rs) where
+  accepted-rows : Rows W d (map unworkedRow rs)
   accepted-rows = record {
-    low = k .low;
-    high = k .high;
-    some = omega (arith, length-map rs unworked, k .some);
-    capped = omega (arith, length-map rs unworked, k .capped);
+    low = degree-range (k .degree) .0;
+    high = degree-range (k .degree) .1;
+    filled = omega (arith, length-map rs unworkedRow, k .filled);
+    capped = omega (arith, length-map rs unworkedRow, k .capped);
     falls = rw (unworked-clusters rs) (k .facts .falls);
-    each = λ e m. let q = Memᴰ·of-map unworked rs m in
-        subst (λ (x : Entry Result). T (keepsRules narrow (x .row))) (q .2) (k .rules (q .0) (q .1));
+    each = λ e m. let q = Memᴰ·of-map unworkedRow rs m in
+        subst (λ (x : Entry Result). T (keepsRules W (x .row))) (q .2) (k .rules (q .0) (q .1));
   }
 
-  pub built-fit : T (isFit narrow (tableOf d (builtTable narrow d rs)))
+  pub built-fit : T (isFit W (tableOf d (builtTable W d rs)))
   built-fit =
-      subst (λ (es : List (Entry Result)). T (isFit narrow (tableOf d es))) (again-built d rs (k .facts))
-      (again-table-fit d 0 (map unworked rs) accepted-rows (λ e m n. absurd (n (zero-inside (cl e)))))
+      subst (λ (es : List (Entry Result)). T (isFit W (tableOf d es))) (again-built facts d rs (k .facts))
+      (again-table-fit W facts d 0 (map unworkedRow rs) accepted-rows (λ e m n. absurd (n (zero-inside (cl e)))))

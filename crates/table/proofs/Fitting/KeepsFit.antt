@@ -20,26 +20,31 @@ use lib.IntN.{natAbs}
 use lib.ListN.{length, length-map}
 use lib.Pow.{pow-pos}
 use Rattle.laws.specs.Cluster.{inside, single}
-use Rattle.laws.specs.Limits.{Width, weightMax, few}
+use Rattle.laws.specs.Limits.{Width, weightMax}
 use Rattle.laws.specs.Lists.{keep, Falling}
 use Rattle.laws.specs.Row.{Row, isScored}
+use Rattle.laws.specs.Widths.{few}
 use Rattle.laws.proofs.Choose.{few-mono}
 use Rattle.laws.proofs.Keep.{mem-of-keep, length-keep-le, keep-all}
+use Rattle.cluster.specs.Rule.{keepsRules}
+use Rattle.cluster.proofs.Laws.Rule.{rules→}
 use Rattle.trees.specs.Rows.{Entry, cl, sc}
 use Rattle.trees.specs.Tuple.{tuples}
 use Rattle.trees.specs.Result.{Result, blank, countField, markField}
-use Rattle.trees.specs.Rescored.{keyOf, firstKey, isLive, joined, alone, workedOut}
-use Rattle.trees.specs.Kind.{overTuples, valueIf, Sol, solKind, Res}
+use Rattle.trees.specs.Rescored.{joined, alone, workedOut}
+use Rattle.trees.specs.Kind.{overTuples, valueIf}
+use Rattle.trees.specs.Beneath.{keyOf, firstKey, isLive}
+use Rattle.trees.specs.Solution.{Sol, solKind, Res}
 use Rattle.trees.proofs.Counting.Capped.{encode, encodeSol, Counted, second, past, count-small, count-large}
 use Rattle.trees.proofs.Formula.Kind.{mapE}
 use Rattle.trees.proofs.Ties.Marks.{marks-lt, marks-inj}
 use Rattle.trees.proofs.Bounds.TupleBound.{entries-le}
 use Rattle.trees.proofs.Counting.Worked.{markIn, lengthIf, trueResult, AllCounted, worked-encode}
-use Rattle.kept.specs.Fit.{keepsRules, fitEntry}
+use Rattle.kept.specs.Fit.{fitEntry}
 use Rattle.kept.specs.Marks.{isMarkedIn}
 use Rattle.kept.specs.Blank.{isBlank}
 use Rattle.kept.proofs.Laws.Results.{Ranged, Matched}
-use Rattle.kept.proofs.Laws.Fit.{rules→, →fit}
+use Rattle.kept.proofs.Laws.Fit.{→fit}
 use Rattle.table.specs.Searched.{GoodRow}
 use Rattle.table.specs.Tally.{decoded}
 use Rattle.table.proofs.Tallies.Decoded.{encode-decoded, decoded-keeps}

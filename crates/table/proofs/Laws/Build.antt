@@ -1,36 +1,48 @@
--- Building: what is given in each case, and that working out the arranged rows of an accepted list is the build.
---     build-of                what is given, by why the list is refused
---     build-only              two outcomes that the promise of a build allows are equal
---     Accepted d rs           what holds of the rows of an accepted list
---     clusters-of-rows, unworked-clusters     the clusters of rows, beside any results and beside none
---     again-all, again-built  working every row out again makes the table anew, which is the built one
---     workable, again-is      they may be worked out, and so worked out they are the built table
---     InOrder l n s o         the records of l are read and in order
---     made-bad, made-repeated, made-within, made-workable, made-accepted     refusals 5 and 6, and a success
+-- Building: what is given in each case, and that working out the rows of an accepted list is the build.
+--     build-of                what is given, by the first reason that applies
+--     degree-range, degree-of     the degree bounds that are taken
+--     Buildable W d rs, buildable     what holds of the rows of an accepted list
+--     clusters-of-rows        the clusters of rows, beside any results
+--     unworkedRow, unworked-clusters     a row with no results
+--     again-built             rows worked out from rows with no results are the built ones
+--     unworked-is             a listing's arrays as a table with no results: the table of rows with none
+--     again-is, workable      its rows may be worked out, and so worked out they are the built table
+--     build-out, build-refused, build-workable, build-done     the ways in which the code ends
 -- Assumes nothing.
 use mathlib.Core.Path.{_≡_, refl, sym, ap, ap₂, _∙_, subst}
-use mathlib.Core.Bool.{Bool, false}
+use mathlib.Core.Bool.{Bool, false, not}
 use mathlib.Core.Option.{Option, none}
-use mathlib.Core.List.{List, [], _∷_, map, Memᴰ·of-map}
+use mathlib.Core.List.{List, [], _∷_, _++_, map, reverse, Memᴰ·of-map}
 use mathlib.Core.List.{List·Memᴰ as Mem}
-use Prim.Native.Nat.{ℕ, _-_, _/_, _≤_, _<_}
+use Prim.Native.Nat.{ℕ, _-_, _/_, _%_, _≤_, _<_}
 use native.Mathlib.Omega.{arith}
-use lib.Dec.{T}
-use lib.ListN.{length, getD, length-map}
+use lib.Dec.{T, leb, leb→le, le→leb}
+use lib.IntN.{pos}
+use lib.ListN.{length, length-map, replicate}
 use Rattle.laws.specs.Cluster.{inside}
-use Rattle.laws.specs.Limits.{narrow, degreeLow, degreeHigh, rowCap}
+use Rattle.laws.specs.Column.{column}
+use Rattle.laws.specs.Limits.{Width, degreeLow, degreeHigh, isDegree, rowCap, wordValues}
 use Rattle.laws.specs.Row.{Row}
+use Rattle.laws.specs.Widths.{WidthFacts}
 use Rattle.laws.proofs.Appended.{map-through}
 use Rattle.laws.proofs.Cluster.{zero-inside}
-use Rattle.laws.proofs.Tests.{T-true}
+use Rattle.laws.proofs.Column.{column-keep}
+use Rattle.laws.proofs.Down.{down-mem}
+use Rattle.laws.proofs.Tests.{T-and, and-T, T-true}
 use Rattle.cluster.specs.declared.refusal.Answer.{Answer}
-use Rattle.cluster.specs.declared.refusal.Answer.the-variants.{Done}
+use Rattle.cluster.specs.declared.refusal.Answer.the-variants.{Done, Refused}
 use Rattle.cluster.specs.declared.refusal.Refusal.{Refusal}
-use Rattle.cluster.specs.declared.refusal.Refusal.the-variants.{BadRecord, Repeated}
-use Rattle.cluster.specs.Bytes.{byteValues}
-use Rattle.cluster.specs.Record.{recordBytes}
-use Rattle.cluster.specs.Refusal.{sentOf}
-use Rattle.cluster.proofs.Laws.Refusal.{sentOf-inj}
+use Rattle.cluster.specs.declared.refusal.Refusal.the-variants.{DegreeOut}
+use Rattle.cluster.specs.Outcome.{outcomeOf, ended}
+use Rattle.cluster.specs.Reasons.{firstReason}
+use Rattle.cluster.specs.Rule.{keepsRules}
+use Rattle.cluster.proofs.Laws.Outcome.{ended-refused, ended-done}
+use Rattle.cluster.proofs.Laws.Reasons.{reason-told, reason-passed, none-iff}
+use Rattle.lists.specs.Accepted.{Bytes, Accepted}
+use Rattle.lists.specs.Listing.{Listed, listed, listReasons, readList}
+use Rattle.lists.specs.Records.{rowsOf}
+use Rattle.lists.proofs.Laws.Listing.{readList-is}
+use Rattle.lists.proofs.Theorems.{accepted-iff, accepted-some, accepted-few, accepted-rules, accepted-facts}
 use Rattle.trees.specs.Rows.{Entry, clustersOf, cl, RowFacts}
 use Rattle.trees.specs.Result.{Result, blank}
 use Rattle.trees.specs.Built.{builtTable}
@@ -38,189 +50,184 @@ use Rattle.trees.specs.Rescored.{workedOut, againIf, again}
 use Rattle.trees.specs.Kind.{workedFrom}
 use Rattle.trees.proofs.Built.{worked-is-built}
 use Rattle.kept.specs.declared.table.Table.{Table}
-use Rattle.kept.specs.View.{rowAt, entryAt, tableOf, clustersDown}
-use Rattle.kept.specs.Fit.{keepsRules}
+use Rattle.kept.specs.View.{rowAt, entryAt, clustersIn, tableOf, zeroTable}
 use Rattle.kept.specs.Arrays.{Rising}
-use Rattle.kept.proofs.Laws.Clusters.{clusters-are}
-use Rattle.laws.proofs.Down.{falling-down, down-mem}
-use Rattle.kept.proofs.Laws.Through.{through-ext}
 use Rattle.kept.proofs.Laws.Blank.{blank→empty}
+use Rattle.kept.proofs.Laws.Fit.{entries-rising}
 use Rattle.kept.proofs.Laws.View.{entries-table, table-sized, table-past}
-use Rattle.table.specs.declared.listing.Listed.{Listed}
-use Rattle.table.specs.declared.listing.Order.{Order}
-use Rattle.table.specs.declared.making.Built.{Built}
-use Rattle.table.specs.Listing.{rowIn, badFrom, repeats, repeatFrom, rowsTo, rowsOf, recordRefusal}
-use Rattle.table.specs.Working.{againTable, Workable}
-use Rattle.table.specs.Arranged.{rowFrom, ReadTo, HasClusters, Ordered, Within, unworked, arrangedTable, Makeable}
-use Rattle.table.specs.Build.{Making, makingOf, refusalOf, refusedBuild, madeOf, buildTable}
-use Rattle.laws.proofs.First.{first-before, first-high}
-use Rattle.table.proofs.Laws.Listing.{breaks, bad-is, repeat-is, rows-length, row-rules, row-facts}
-use Rattle.table.proofs.Laws.Refused.{record-bad, record-repeated, record-none}
+use Rattle.table.specs.Build.{buildReasons, buildTable}
+use Rattle.table.specs.Working.{unworkedTable, againTable, Workable}
 
--- ---- refused or built
+-- ---- what is given, by the first reason that applies
 
-pub build-of : (l : List ℕ) (d : ℕ) {x : Option Refusal} → refusalOf l d ≡ x → buildTable l d ≡ madeOf l d x
+pub build-of : (W : Width) (l : List ℕ) (d : ℕ) {f : Option Refusal} → firstReason (buildReasons W l d) ≡ f
+    → buildTable W l d ≡ ended f zeroTable 0 (tableOf d (builtTable W d (rowsOf W l)))
 unfolding buildTable
-build-of l d e = ap (madeOf l d) e
+build-of W l d e = ap (λ (f : Option Refusal). ended f zeroTable 0 (tableOf d (builtTable W d (rowsOf W l)))) e
 
--- what a build sends back tells what it gave
-pub build-only : (l : List ℕ) (d : ℕ) (x y : Built) → makingOf x ≡ buildTable l d → makingOf y ≡ buildTable l d → x ≡ y
-build-only l d x y p q =
-    let same = p ∙ sym q in
-    let answer = sentOf-inj (x .answer) (y .answer) (ap (λ (m : Making). m .sent) same) in
-    ap₂ (λ (a : Answer) (t : Table). record { answer = a; table = t }) answer (ap (λ (m : Making). m .table) same)
+pub degree-range : {d : ℕ} → T (isDegree d) → (degreeLow ≤ d) × (d ≤ degreeHigh)
+degree-range {d} h = let q = T-and (leb degreeLow d) (leb d degreeHigh) h in (leb→le _ _ (q .0), leb→le _ _ (q .1))
 
--- ---- the rows of an accepted list are worked out
+pub degree-of : {d : ℕ} → degreeLow ≤ d → d ≤ degreeHigh → T (isDegree d)
+degree-of {d} a b = and-T (leb degreeLow d) (leb d degreeHigh) (le→leb _ _ a) (le→leb _ _ b)
 
-pub record Accepted (d : ℕ) (rs : List Row) : Type 0 where
-  pub low : degreeLow ≤ d
-  pub high : d ≤ degreeHigh
-  pub some : 1 ≤ length rs
-  pub capped : length rs ≤ rowCap
-  pub facts : RowFacts (narrow .taxa) rs
-  pub rules : (r : Row) → Mem r rs → T (keepsRules narrow r)
+-- ---- the rows of an accepted list
+
+pub record Buildable (W : Width) (d : ℕ) (rs : List Row) : Type 0 where
+  pub degree : T (isDegree d)
+  pub filled : 1 ≤ length rs
+  pub capped : length rs ≤ W .rows
+  pub facts : RowFacts (W .taxa) rs
+  pub rules : (r : Row) → Mem r rs → T (keepsRules W r)
+
+pub buildable : {W : Width} → WidthFacts W → {l : List ℕ} {d : ℕ} → T (isDegree d) → Bytes l → Accepted W l → Buildable W d (rowsOf W l)
+buildable {W} facts {l} degree byte a = record {
+  degree = degree;
+  filled = accepted-some W l a;
+  capped = accepted-few W l a facts;
+  facts = accepted-facts W l a facts byte;
+  rules = accepted-rules W l a facts byte;
+}
+
+-- ---- rows with no results, worked out
 
 module _ (val : Row → Result) where
   pub clusters-of-rows : (rs : List Row) → map cl (map (λ (r : Row). record { row = r; val = val r }) rs) ≡ clustersOf rs
   clusters-of-rows = map-through (λ (r : Row). record { row = r; val = val r }) cl (λ (r : Row). r .cluster) (λ r. refl)
 
-pub unworked-clusters : (rs : List Row) → map cl (map unworked rs) ≡ clustersOf rs
+abbrev pub unworkedRow : Row → Entry Result
+unworkedRow r = record { row = r; val = blank }
+
+pub unworked-clusters : (rs : List Row) → map cl (map unworkedRow rs) ≡ clustersOf rs
 unworked-clusters = clusters-of-rows (λ (r : Row). blank)
 
 -- the empty cluster is inside every other
-again-all : (F : Row → List (Entry Result) → Result) (rs : List Row) → again F 0 (map unworked rs) ≡ workedFrom F rs
+again-all : (F : Row → List (Entry Result) → Result) (rs : List Row) → again F 0 (map unworkedRow rs) ≡ workedFrom F rs
 again-all F [] = refl
 again-all F (r ∷ rs) =
-    ap (λ (b : Bool). againIf F b (unworked r) (again F 0 (map unworked rs))) (T-true (inside 0 (r .cluster)) (zero-inside (r .cluster)))
+    ap (λ (b : Bool). againIf F b (unworkedRow r) (again F 0 (map unworkedRow rs)))
+    (T-true (inside 0 (r .cluster)) (zero-inside (r .cluster)))
     ∙ ap (λ (t : List (Entry Result)). record { row = r; val = F r t } ∷ t) (again-all F rs)
 
--- every row worked out from rows with no results
-pub again-built : (d : ℕ) (rs : List Row) → RowFacts (narrow .taxa) rs
-    → again (workedOut narrow d (map cl (map unworked rs))) 0 (map unworked rs) ≡ builtTable narrow d rs
-again-built d rs facts =
-    again-all (workedOut narrow d (map cl (map unworked rs))) rs
-    ∙ ap (λ (cs : List ℕ). workedFrom (workedOut narrow d cs) rs) (unworked-clusters rs)
-    ∙ worked-is-built narrow (omega arith) d rs facts
+pub again-built : {W : Width} → WidthFacts W → (d : ℕ) (rs : List Row) → RowFacts (W .taxa) rs
+    → again (workedOut W d (map cl (map unworkedRow rs))) 0 (map unworkedRow rs) ≡ builtTable W d rs
+again-built {W} facts d rs k =
+    again-all (workedOut W d (map cl (map unworkedRow rs))) rs
+    ∙ ap (λ (cs : List ℕ). workedFrom (workedOut W d cs) rs) (unworked-clusters rs)
+    ∙ worked-is-built W (facts .counts) d rs k
 
-module _ (d : ℕ) (rs : List Row) (k : Accepted d rs) where
+-- ---- the arrays of a listing as a table
+
+module _ {A : Type 0} (z : A) (f : Entry Result → A) where
+  listed-column : (rs : List Row) → column z (λ (r : Row). f (unworkedRow r)) rs ≡ column z f (map unworkedRow rs)
+  listed-column rs =
+      ap₂ (λ (l : List A) (n : ℕ). reverse l ++ replicate (rowCap - n) z)
+      (sym (map-through unworkedRow f (λ (r : Row). f (unworkedRow r)) (λ r. refl) rs)) (sym (length-map rs unworkedRow))
+
+  zero-column : ((r : Row) → f (unworkedRow r) ≡ z) → (rs : List Row) → length rs ≤ rowCap
+      → replicate rowCap z ≡ column z f (map unworkedRow rs)
+  zero-column e [] h = refl
+  zero-column e (r ∷ rs) h =
+      zero-column e rs (omega arith)
+      ∙ column-keep z f (unworkedRow r) (map unworkedRow rs) (omega (arith, length-map rs unworkedRow)) (e r)
+
+pub unworked-is : (d : ℕ) (rs : List Row) → length rs ≤ rowCap → unworkedTable (listed rs) d ≡ tableOf d (map unworkedRow rs)
+unworked-is d rs h = λ i. record {
+  rows = sym (length-map rs unworkedRow) i;
+  clusters = listed-column 0 (λ (e : Entry Result). e .row .cluster) rs i;
+  weights = listed-column (pos 0) (λ (e : Entry Result). e .row .weight) rs i;
+  states = listed-column 0 (λ (e : Entry Result). e .row .state) rs i;
+  lengths = zero-column 0 (λ (e : Entry Result). e .val .length) (λ r. refl) rs h i;
+  counts = zero-column 0 (λ (e : Entry Result). e .val .count) (λ r. refl) rs h i;
+  marks = zero-column 0 (λ (e : Entry Result). e .val .mark) (λ r. refl) rs h i;
+  bests = zero-column (pos 0) (λ (e : Entry Result). e .val .best) (λ r. refl) rs h i;
+  «members_low» = zero-column 0 (λ (e : Entry Result). e .val .members % wordValues) (λ r. refl) rs h i;
+  «members_high» = zero-column 0 (λ (e : Entry Result). e .val .members / wordValues) (λ r. refl) rs h i;
+  degree = d;
+}
+
+-- ---- that table worked out
+
+module _ {W : Width} (facts : WidthFacts W) {d : ℕ} {rs : List Row} (k : Buildable W d rs) where
   abbrev es : List (Entry Result)
-  es = map unworked rs
+  es = map unworkedRow rs
 
   abbrev table : Table
   table = tableOf d es
 
   count : length es ≡ length rs
-  count = length-map rs unworked
+  count = length-map rs unworkedRow
 
-  same-clusters : clustersDown (table .clusters) (length es) ≡ map cl es
-  same-clusters = sym (clusters-are table (length es)) ∙ ap (map cl) (entries-table d es)
+  same-clusters : clustersIn table ≡ map cl es
+  same-clusters = ap (map cl) (entries-table d es)
 
-  pub again-is : againTable table 0 ≡ tableOf d (builtTable narrow d rs)
+  pub again-is : againTable W (tableOf d (map unworkedRow rs)) 0 ≡ tableOf d (builtTable W d rs)
   again-is =
       ap (tableOf d) (
-      ap₂ (λ (cs : List ℕ) (t : List (Entry Result)). again (workedOut narrow d cs) 0 t) same-clusters (entries-table d es)
-      ∙ again-built d rs (k .facts))
+      ap₂ (λ (cs : List ℕ) (t : List (Entry Result)). again (workedOut W d cs) 0 t) same-clusters (entries-table d es)
+      ∙ again-built facts d rs (k .facts))
+
+  room : length es ≤ rowCap
+  room = omega (arith, count, k .capped, facts .rows)
 
   rising : Rising (table .clusters) (length es)
   rising = record {
-    long = omega (arith, table-sized d es (omega (arith, count, k .capped)) .clusters, count, k .capped);
-    up = falling-down _ (length es) (rw (same-clusters, unworked-clusters rs) (k .facts .falls));
+    long = omega (arith, table-sized d es room .clusters, room);
+    up = entries-rising table (rw (same-clusters, unworked-clusters rs) (k .facts .falls));
   }
 
   -- a row of the table is one of the rows, with no results
-  at-row : (i : ℕ) → i < length es → (r : Row) × Mem r rs × (unworked r ≡ entryAt table i)
-  at-row i h = Memᴰ·of-map unworked rs (subst (Mem (entryAt table i)) (entries-table d es) (down-mem (entryAt table) (length es) i h))
+  at-row : (i : ℕ) → i < length es → (r : Row) × Mem r rs × (unworkedRow r ≡ entryAt table i)
+  at-row i h = Memᴰ·of-map unworkedRow rs (subst (Mem (entryAt table i)) (entries-table d es) (down-mem (entryAt table) (length es) i h))
 
-  pub workable : Workable table 0
+  pub workable : Workable W (tableOf d (map unworkedRow rs)) 0
   workable = record {
-    some = omega (arith, count, k .some);
+    filled = omega (arith, count, k .filled);
     capped = omega (arith, count, k .capped);
-    sized = table-sized d es (omega (arith, count, k .capped));
-    low = k .low;
-    high = k .high;
+    sized = table-sized d es room;
+    low = degree-range (k .degree) .0;
+    high = degree-range (k .degree) .1;
     rising = rising;
-    rules = λ i h. let q = at-row i h in subst (λ (e : Entry Result). T (keepsRules narrow (e .row))) (q .2) (k .rules (q .0) (q .1));
+    rules = λ i h. let q = at-row i h in subst (λ (e : Entry Result). T (keepsRules W (e .row))) (q .2) (k .rules (q .0) (q .1));
     fit = λ i h out. absurd (out (zero-inside (rowAt table i .cluster)));
     words = λ i h. omega (arith, ap (λ (e : Entry Result). e .val .members) (at-row i h .2));
     blank = λ i l m. blank→empty table i (table-past d es i l);
   }
 
--- ---- the records read and in order
+-- ---- how the code ends
 
-pub made-bad : {l : List ℕ} {n : ℕ} {s : Listed} (d : ℕ) → ReadTo l n s → s .read < n
-    → madeOf l d (recordRefusal l n) ≡ refusedBuild (BadRecord (s .read))
-made-bad {l} {n} {s} d read h = ap (madeOf l d) (record-bad l n (s .read) 0 (sym (read .first)) h)
+module _ (W : Width) (l : List ℕ) (d : ℕ) where
+  pub build-out : isDegree d ≡ false → outcomeOf (Refused DegreeOut) zeroTable ≡ buildTable W l d
+  build-out e = sym (build-of W l d (reason-told (not (isDegree d)) DegreeOut (listReasons W l) (ap not e)))
 
--- all n records of l are read, and s has them; o has them in order, or those before the first repeat
-pub record InOrder (l : List ℕ) (n : ℕ) (s : Listed) (o : Order) : Type 0 where
-  pub read : ReadTo l n s
-  pub whole : n ≤ s .read
-  pub order : Ordered (s .clusters) n o
+  module _ (degree : T (isDegree d)) where
+    -- past the degree bound the list's own reasons tell
+    reasons-of : {f : Option Refusal} → firstReason (listReasons W l) ≡ f → firstReason (buildReasons W l d) ≡ f
+    reasons-of e = reason-passed (not (isDegree d)) DegreeOut (listReasons W l) (ap not (T-true (isDegree d) degree)) ∙ e
 
-module _ {l : List ℕ} {n : ℕ} {s : Listed} {o : Order} (d : ℕ) (known : InOrder l n s o) where
-  all-read : s .read ≡ n
-  all-read = omega (arith, known .whole, known .read .first, bad-is l 0 n, first-high (breaks l) 0 n)
+    -- a is the answer, and s the rows, that reading the list gave
+    module _ {a : Answer} {s : Listed} (read : outcomeOf a s ≡ readList W l) where
+      ends : {b : Answer} → a ≡ b → ended (firstReason (listReasons W l)) (listed []) 0 (listed (rowsOf W l)) ≡ outcomeOf b s
+      ends e = sym (readList-is W l) ∙ sym read ∙ ap (λ (x : Answer). outcomeOf x s) e
 
-  none-bad : badFrom l 0 n ≡ n
-  none-bad = sym (known .read .first) ∙ all-read
+      pub build-refused : {f : Refusal} → a ≡ Refused f → outcomeOf (Refused f) zeroTable ≡ buildTable W l d
+      build-refused {f} e =
+          sym (build-of W l d (reasons-of (ended-refused (firstReason (listReasons W l)) (listed []) 0 (listed (rowsOf W l)) f s (ends e) .0)))
 
-  kept : (i : ℕ) → i < n → breaks l i ≡ false
-  kept i h = first-before (breaks l) 0 n i (omega arith) (omega (arith, bad-is l 0 n, none-bad))
+      module _ (facts : WidthFacts W) (byte : Bytes l) {m : ℕ} (e : a ≡ Done m) where
+        told : (firstReason (listReasons W l) ≡ none) × (s ≡ listed (rowsOf W l))
+        told = ended-done (firstReason (listReasons W l)) (listed []) 0 (listed (rowsOf W l)) m s (ends e)
 
-  has-clusters : HasClusters (rowIn l) (s .clusters) n
-  has-clusters p h = ap (λ (r : Row). r .cluster) (sym (known .read .rows p (omega (arith, all-read))))
+        rows : Buildable W d (rowsOf W l)
+        rows = buildable facts degree byte (accepted-iff W l .0 (none-iff (listReasons W l) .0 (told .0)))
 
-  first-repeat : o .placed ≡ repeatFrom l 0 n
-  first-repeat = known .order .first l has-clusters
+        table-is : unworkedTable s d ≡ tableOf d (map unworkedRow (rowsOf W l))
+        table-is = ap (λ (x : Listed). unworkedTable x d) (told .1) ∙ unworked-is d (rowsOf W l) (omega (arith, rows .capped, facts .rows))
 
-  pub made-repeated : o .placed < n → madeOf l d (recordRefusal l n) ≡ refusedBuild (Repeated (o .placed))
-  made-repeated h = ap (madeOf l d) (record-repeated l n n (o .placed) none-bad (omega arith) (sym first-repeat) h)
+        pub build-workable : Workable W (unworkedTable s d) 0
+        build-workable = subst (λ (t : Table). Workable W t 0) (sym table-is) (workable facts rows)
 
-  module _ (done : n ≤ o .placed) where
-    all-placed : o .placed ≡ n
-    all-placed = omega (arith, first-repeat, repeat-is l 0 n, first-high (repeats l) 0 n)
-
-    none-repeated : repeatFrom l 0 n ≡ n
-    none-repeated = sym first-repeat ∙ all-placed
-
-    once : (i : ℕ) → i < n → repeats l i ≡ false
-    once i h = first-before (repeats l) 0 n i (omega arith) (omega (arith, repeat-is l 0 n, none-repeated))
-
-    pub made-within : n ≤ rowCap → Within (o .places) n
-    made-within room = record { room = room; each = known .order .within all-placed }
-
-    as-read : (j : ℕ) → j < n → rowFrom s (getD (o .places) j 0) ≡ rowIn l (getD (o .places) j 0)
-    as-read j h = known .read .rows (getD (o .places) j 0) (omega (arith, all-read, known .order .within all-placed j h))
-
-    arranged-is : arrangedTable (rowFrom s) (o .places) n d ≡ tableOf d (map unworked (rowsTo l n))
-    arranged-is =
-        ap (λ (rs : List Row). tableOf d (map unworked rs))
-        (through-ext (rowFrom s) (rowIn l) (o .places) n as-read ∙ known .order .rows all-placed l has-clusters)
-
-    module _ (byte : (i : ℕ) → getD l i 0 < byteValues) (ready : Makeable l n d) where
-      rows : Accepted d (rowsTo l n)
-      rows = record {
-        low = ready .low;
-        high = ready .high;
-        some = omega (arith, rows-length l n, ready .some);
-        capped = omega (arith, rows-length l n, ready .room);
-        facts = row-facts l byte n kept once;
-        rules = row-rules l byte n kept;
-      }
-
-      pub made-workable : Workable (arrangedTable (rowFrom s) (o .places) n d) 0
-      made-workable = rw arranged-is (workable d (rowsTo l n) rows)
-
-      accepted : recordRefusal l n ≡ none
-      accepted = record-none l n n n none-bad (omega arith) none-repeated (omega arith)
-
-      -- the list has n records
-      rows-are : rowsTo l n ≡ rowsOf l
-      rows-are = ap (rowsTo l) (let e : n ≡ length l / recordBytes = omega (arith, ready .whole) in e)
-
-      pub made-accepted : (t : Table) → t ≡ againTable (arrangedTable (rowFrom s) (o .places) n d) 0
-          → record { sent = sentOf (Done 0); table = t } ≡ madeOf l d (recordRefusal l n)
-      made-accepted t e =
-          let built = e ∙ ap (λ (u : Table). againTable u 0) arranged-is ∙ again-is d (rowsTo l n) rows in
-          let all-rows = built ∙ ap (λ (rs : List Row). tableOf d (builtTable narrow d rs)) rows-are in
-          ap (λ (u : Table). record { sent = sentOf (Done 0); table = u }) all-rows ∙ ap (madeOf l d) (sym accepted)
+        pub build-done : {t : Table} → t ≡ againTable W (unworkedTable s d) 0 → outcomeOf (Done 0) t ≡ buildTable W l d
+        build-done q =
+            ap (outcomeOf (Done 0)) (q ∙ ap (λ (t : Table). againTable W t 0) table-is ∙ again-is facts rows)
+            ∙ sym (build-of W l d (reasons-of (told .0)))

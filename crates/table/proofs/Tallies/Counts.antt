@@ -3,7 +3,7 @@
 --     Told, tally-told         what the fields of a tally say of its true count; some-told where there is a tree
 --     tally-tuples, tally-count-le      a tally's number of tuples, and that its count is within the limit
 --     told-count               a count of one or more isn't 0 in its field
---     plusCounts-is, timesCounts-is     the code's counts are the sum and the product, stopped at the limit
+--     cappedSum-is, cappedProduct-is     the code's counts are the sum and the product, stopped at the limit
 -- Assumes nothing.
 use mathlib.Core.Path.{_≡_, refl, sym, ap₂, _∙_}
 use mathlib.Core.Logic.{_⊎_, inl, inr, _≢_}
@@ -13,14 +13,15 @@ use native.Mathlib.Decide.{decLe}
 use native.Mathlib.Nat.{le-div-iff-mul-le, mul-le-mul-left, mul-le-mul-right, mul-one, one-mul}
 use native.Mathlib.Omega.{arith}
 use Rattle.trees.specs.Result.{countField, markField}
-use Rattle.trees.specs.Kind.{Sol, Res}
+use Rattle.trees.specs.Solution.{Sol, Res}
 use Rattle.trees.proofs.Counting.Capped.{trueCount, count-small, count-large, past}
 use Rattle.table.specs.declared.tally.Count.{Count}
 use Rattle.table.specs.declared.tally.Tally.{Tally}
-use Rattle.table.specs.Tally.{tallyWith, tallyOf, manyCount, exactCount, plusCounts, timesCounts}
-use Rattle.table.proofs.Tallies.Tally.{plusCounts-marked-l, plusCounts-marked-r, plusCounts-past, plusCounts-exact}
-use Rattle.table.proofs.Tallies.Tally.{timesCounts-marked-l, timesCounts-marked-r}
-use Rattle.table.proofs.Tallies.Tally.{timesCounts-past, timesCounts-exact, product-le}
+use Rattle.table.specs.Tally.{tallyWith, tallyOf}
+use Rattle.table.specs.Sums.{manyCount, exactCount, cappedSum, cappedProduct}
+use Rattle.table.proofs.Tallies.Tally.{cappedSum-marked-l, cappedSum-marked-r, cappedSum-past, cappedSum-exact}
+use Rattle.table.proofs.Tallies.Tally.{cappedProduct-marked-l, cappedProduct-marked-r}
+use Rattle.table.proofs.Tallies.Tally.{cappedProduct-past, cappedProduct-exact, product-le}
 
 abbrev pub capped : ℕ → ℕ → Count
 capped limit n = record { count = countField limit n; mark = markField limit n }
@@ -63,19 +64,19 @@ module _ (limit : ℕ) where
   told-count a n l p (small h c m) z = omega arith
   told-count a n l p (large h c m) z = omega arith
 
-  pub plusCounts-is : (a b : Tally) (m n : ℕ) → Told a m → Told b n → plusCounts limit a b ≡ capped limit (m + n)
-  plusCounts-is a b m n (large h c k) t = plusCounts-marked-l limit a b k ∙ sym (capped-large (m + n) (omega arith))
-  plusCounts-is a b m n (small h c k) (large h′ c′ k′) =
-      plusCounts-marked-r limit a b (λ e. omega arith) k′ ∙ sym (capped-large (m + n) (omega arith))
-  plusCounts-is a b m n (small h c k) (small h′ c′ k′) = go (past limit (m + n))
+  pub cappedSum-is : (a b : Tally) (m n : ℕ) → Told a m → Told b n → cappedSum limit a b ≡ capped limit (m + n)
+  cappedSum-is a b m n (large h c k) t = cappedSum-marked-l limit a b k ∙ sym (capped-large (m + n) (omega arith))
+  cappedSum-is a b m n (small h c k) (large h′ c′ k′) =
+      cappedSum-marked-r limit a b (λ e. omega arith) k′ ∙ sym (capped-large (m + n) (omega arith))
+  cappedSum-is a b m n (small h c k) (small h′ c′ k′) = go (past limit (m + n))
     where
-      go : (m + n ≤ limit) ⊎ (limit < m + n) → plusCounts limit a b ≡ capped limit (m + n)
+      go : (m + n ≤ limit) ⊎ (limit < m + n) → cappedSum limit a b ≡ capped limit (m + n)
       go (inl l) =
-          plusCounts-exact limit a b (λ e. omega arith) (λ e. omega arith) (omega arith)
+          cappedSum-exact limit a b (λ e. omega arith) (λ e. omega arith) (omega arith)
           ∙ ap₂ (λ (x y : ℕ). exactCount (x + y)) c c′
           ∙ sym (capped-small (m + n) l)
       go (inr l) =
-          plusCounts-past limit a b (λ e. omega arith) (λ e. omega arith) (omega arith) ∙ sym (capped-large (m + n) l)
+          cappedSum-past limit a b (λ e. omega arith) (λ e. omega arith) (omega arith) ∙ sym (capped-large (m + n) l)
 
   module _ (one : 1 ≤ limit) (a b : Tally) (m n : ℕ) (p : 1 ≤ m) (q : 1 ≤ n) where
     many-l : limit < m → limit < m * n
@@ -84,8 +85,8 @@ module _ (limit : ℕ) where
     many-r : limit < n → limit < m * n
     many-r h = omega (arith, mul-le-mul-right n p, one-mul n)
 
-    pub timesCounts-is : Told a m → Told b n → timesCounts limit a b ≡ capped limit (m * n)
-    timesCounts-is t u = go t u
+    pub cappedProduct-is : Told a m → Told b n → cappedProduct limit a b ≡ capped limit (m * n)
+    cappedProduct-is t u = go t u
       where
         f : a .count ≢ 0
         f = told-count a m one p t
@@ -94,22 +95,22 @@ module _ (limit : ℕ) where
         g = told-count b n one q u
 
         both : m ≤ limit → n ≤ limit → a .count ≡ m → b .count ≡ n → a .mark ≡ 0 → b .mark ≡ 0 → (m * n ≤ limit) ⊎ (limit < m * n)
-            → timesCounts limit a b ≡ capped limit (m * n)
+            → cappedProduct limit a b ≡ capped limit (m * n)
         both h h′ c c′ k k′ (inl l) =
-            timesCounts-exact limit a b f g (λ e. omega arith) (λ e. omega arith)
+            cappedProduct-exact limit a b f g (λ e. omega arith) (λ e. omega arith)
             (rw (c, c′) (le-div-iff-mul-le {k = n} {x = m} {y = limit} q .1 l))
             ∙ ap₂ (λ (x y : ℕ). exactCount (x * y)) c c′
             ∙ sym (capped-small (m * n) l)
         both h h′ c c′ k k′ (inr l) =
-            timesCounts-past limit a b f g (λ e. omega arith) (λ e. omega arith) (rw (c, c′) (less (decLe m (limit / n))))
+            cappedProduct-past limit a b f g (λ e. omega arith) (λ e. omega arith) (rw (c, c′) (less (decLe m (limit / n))))
             ∙ sym (capped-large (m * n) l)
           where
             less : Dec (m ≤ limit / n) → limit / n < m
             less (yes u) = absurd (omega (arith, product-le limit m n (λ e. omega arith) u))
             less (no u) = omega arith
 
-        go : Told a m → Told b n → timesCounts limit a b ≡ capped limit (m * n)
-        go (large h c k) v = timesCounts-marked-l limit a b f g k ∙ sym (capped-large (m * n) (many-l h))
+        go : Told a m → Told b n → cappedProduct limit a b ≡ capped limit (m * n)
+        go (large h c k) v = cappedProduct-marked-l limit a b f g k ∙ sym (capped-large (m * n) (many-l h))
         go (small h c k) (large h′ c′ k′) =
-            timesCounts-marked-r limit a b f g (λ e. omega arith) k′ ∙ sym (capped-large (m * n) (many-r h′))
+            cappedProduct-marked-r limit a b f g (λ e. omega arith) k′ ∙ sym (capped-large (m * n) (many-r h′))
         go (small h c k) (small h′ c′ k′) = both h h′ c c′ k k′ (past limit (m * n))

@@ -25,7 +25,7 @@ use Rattle.laws.proofs.Cluster.{le-of-inside}
 use Rattle.laws.proofs.Taxa.{size-pos}
 use Rattle.trees.specs.Result.{Result, countField, markField}
 use Rattle.trees.specs.Rows.{Entry}
-use Rattle.trees.specs.Kind.{Sol, Res}
+use Rattle.trees.specs.Solution.{Sol, Res}
 use Rattle.trees.proofs.Counting.Capped.{encode, encodeSol, count-small, count-large}
 use Rattle.kept.specs.Fit.{fitEntry}
 use Rattle.kept.specs.Marks.{isMarkedIn}
@@ -39,7 +39,7 @@ use Rattle.table.proofs.Rows.Marked.{marked-mem, every-marked→, marks
 pub good-of-fit : (W : Width) (cs : List ℕ) (e : Entry Result) → T (fitEntry W cs e) → GoodRow (W .countMax) cs (e .row) (e .val)
 good-of-fit W cs e h =
     let f = fit→ W cs e h in
-    record { counted = f .ranged .counted; marked = f .ranged .marked; told = →matched cs (e .row) (e .val) (f .matched) }
+    record { counted = f .ranged .counted; marked = f .ranged .marked; matched = →matched cs (e .row) (e .val) (f .matched) }
 
 -- ---- what the fields stand for
 
@@ -72,7 +72,7 @@ tally-encode limit x = go (x .1)
 
 module _ (limit : ℕ) (cs : List ℕ) (r : Row) (v : Result) (g : GoodRow limit cs r v) where
   tells : Matched cs r v
-  tells = matched→ cs r v (g .told)
+  tells = matched→ cs r v (g .matched)
 
   -- beside any row length
   pub encode-with : (n : ℕ)

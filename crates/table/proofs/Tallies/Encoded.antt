@@ -17,20 +17,21 @@ use lib.Signed.{ltZ}
 use Rattle.laws.specs.Limits.{wordValues}
 use Rattle.laws.proofs.Tests.{bool-ext}
 use Rattle.trees.specs.Result.{countField, markField}
-use Rattle.trees.specs.Rescored.{keyFirst}
-use Rattle.trees.specs.Kind.{Sol, plusSol, timesSol, Res}
+use Rattle.trees.specs.Beneath.{keyFirst}
+use Rattle.trees.specs.Solution.{Sol, plusSol, timesSol, Res}
 use Rattle.trees.proofs.Counting.Capped.{trueCount, Counted}
 use Rattle.table.specs.declared.tally.Count.{Count}
 use Rattle.table.specs.declared.tally.Tally.{Tally}
-use Rattle.table.specs.Tally.{tallyWith, tallyOf, noTally, exactCount, plusCounts, timesCounts}
-use Rattle.table.specs.Tally.{isLarger, isBefore, keepsFirst, withTuples, withCount, plusTally, underTally}
-use Rattle.table.specs.Searched.{sumKind}
-use Rattle.table.proofs.Tallies.Tally.{timesCounts-none-l, timesCounts-none-r}
+use Rattle.table.specs.Tally.{tallyWith, tallyOf}
+use Rattle.table.specs.Columns.{sumKind}
+use Rattle.table.specs.Sums.{noTally, exactCount, cappedSum, cappedProduct, isLarger, isBefore, keepsFirst}
+use Rattle.table.specs.Sums.{withTuples, withCount, plusTally, underTally}
+use Rattle.table.proofs.Tallies.Tally.{cappedProduct-none-l, cappedProduct-none-r}
 use Rattle.table.proofs.Tallies.Tally.{isLarger-high, isLarger-low}
 use Rattle.table.proofs.Tallies.Tally.{isBefore-by, keepsFirst-none-r, keepsFirst-none-l, keepsFirst-both}
 use Rattle.table.proofs.Tallies.Tally.{plusTally-first, plusTally-second, underTally-dead, underTally-live}
 use Rattle.table.proofs.Tallies.Counts.{capped, capped-small, some-told, tally-told, tally-tuples, told-count}
-use Rattle.table.proofs.Tallies.Counts.{plusCounts-is, timesCounts-is}
+use Rattle.table.proofs.Tallies.Counts.{cappedSum-is, cappedProduct-is}
 
 -- ---- the order
 
@@ -69,9 +70,9 @@ module _ (limit : ℕ) where
   recounted m n (some x) c e = ap (withCount (tallyWith limit m (some x)) n) e
 
   module _ (one : 1 ≤ limit) (m n : ℕ) where
-    counts : (u v : Option Sol) → plusCounts limit (tallyWith limit m u) (tallyWith limit n v) ≡ capped limit (trueCount u + trueCount v)
+    counts : (u v : Option Sol) → cappedSum limit (tallyWith limit m u) (tallyWith limit n v) ≡ capped limit (trueCount u + trueCount v)
     counts u v =
-        plusCounts-is limit (tallyWith limit m u) (tallyWith limit n v) (trueCount u) (trueCount v) (tally-told limit m u)
+        cappedSum-is limit (tallyWith limit m u) (tallyWith limit n v) (trueCount u) (trueCount v) (tally-told limit m u)
         (tally-told limit n v)
 
     -- where the second has no tree, the first is kept; where only the second has one, it is
@@ -79,7 +80,7 @@ module _ (limit : ℕ) where
     plus-none-r u =
         sym (plusTally-first limit (tallyWith limit m u) (tallyWith limit n none) _ refl
         (keepsFirst-none-r (tallyWith limit m u) (tallyWith limit n none) refl))
-        ∙ ap (λ (t : ℕ). withCount (tallyWith limit m u) (t + n) (plusCounts limit (tallyWith limit m u) (tallyWith limit n none)))
+        ∙ ap (λ (t : ℕ). withCount (tallyWith limit m u) (t + n) (cappedSum limit (tallyWith limit m u) (tallyWith limit n none)))
         (tally-tuples limit m u)
         ∙ recounted m (m + n) u _ (counts u none ∙ ap (capped limit) (let q : trueCount u + 0 ≡ trueCount u = omega arith in q))
 
@@ -132,7 +133,7 @@ Clear (some x) none = Unit {0}
 Clear (some x) (some y) = x .1 .1 % wordValues + y .1 .1 % wordValues < wordValues
 
 module _ (limit : ℕ) (one : 1 ≤ limit) (n : ℕ) where
-  under-dead : (u v : Option Sol) → timesCounts limit (tallyWith limit 1 u) (tallyWith limit n v) ≡ exactCount 0
+  under-dead : (u v : Option Sol) → cappedProduct limit (tallyWith limit 1 u) (tallyWith limit n v) ≡ exactCount 0
       → underTally limit (tallyWith limit 1 u) (tallyWith limit n v) ≡ tallyWith limit n none
   under-dead u v e =
       sym (underTally-dead limit (tallyWith limit 1 u) (tallyWith limit n v) _ noTally (sym e) refl refl)
@@ -150,8 +151,8 @@ module _ (limit : ℕ) (one : 1 ≤ limit) (n : ℕ) where
       B : Tally
       B = tallyWith limit n (some y)
 
-      counts : timesCounts limit A B ≡ capped limit (x .0 * y .0)
-      counts = timesCounts-is limit one A B (x .0) (y .0) p q (some-told limit 1 x) (some-told limit n y)
+      counts : cappedProduct limit A B ≡ capped limit (x .0 * y .0)
+      counts = cappedProduct-is limit one A B (x .0) (y .0) p q (some-told limit 1 x) (some-told limit n y)
 
       live : countField limit (x .0 * y .0) ≢ 0
       live =
@@ -170,9 +171,9 @@ module _ (limit : ℕ) (one : 1 ≤ limit) (n : ℕ) where
 
   under-with : (u v : Option Sol) → Counted u → Counted v → Clear u v
       → underTally limit (tallyWith limit 1 u) (tallyWith limit n v) ≡ tallyWith limit n (timesSol u v)
-  under-with none v h k c = under-dead none v (timesCounts-none-l limit (tallyWith limit 1 none) (tallyWith limit n v) refl)
+  under-with none v h k c = under-dead none v (cappedProduct-none-l limit (tallyWith limit 1 none) (tallyWith limit n v) refl)
   under-with (some x) none h k c =
-      under-dead (some x) none (timesCounts-none-r limit (tallyWith limit 1 (some x)) (tallyWith limit n none)
+      under-dead (some x) none (cappedProduct-none-r limit (tallyWith limit 1 (some x)) (tallyWith limit n none)
       (told-count limit (tallyWith limit 1 (some x)) (x .0) one h (some-told limit 1 x)) refl)
   under-with (some x) (some y) h k c = under-both x y h k c
 

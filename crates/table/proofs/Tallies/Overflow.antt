@@ -24,7 +24,7 @@ use Rattle.laws.specs.Limits.{weightMax, rowCap, wordValues}
 use Rattle.laws.proofs.Integers.{abs-sum-le, mag-le-abs}
 use Rattle.laws.proofs.Taxa.{size-part}
 use Rattle.trees.specs.Result.{marksIn}
-use Rattle.trees.specs.Kind.{Sol}
+use Rattle.trees.specs.Solution.{Sol}
 use Rattle.trees.proofs.Sets.Families.{Fam, join, empty, Disj}
 use Rattle.trees.proofs.Ties.Marks.{marks-lt, marks-none, marks-join, no-carry}
 use Rattle.table.specs.declared.tally.Tally.{Tally}
@@ -59,7 +59,7 @@ words-fit cs S U h d =
 
 -- ---- weights
 
-pub light-fits : (R : ℕ) (y z : ℤ) → R < wordValues → natAbs y + natAbs z ≤ 2 * weightMax * size R → SFits w64 (y +ℤ z)
+pub light-fits : (R : ℕ) (y z : ℤ) → R < wordValues → natAbs y + natAbs z ≤ 3 * weightMax * size R → SFits w64 (y +ℤ z)
 light-fits R y z h l = record { sfits = omega (arith, mag-le-abs (y +ℤ z), abs-sum-le y z, ones-le 64 R h) }
 
 best-le : (cs : List ℕ) (b m R limit n : ℕ) (u : Option Sol) → Keeps cs b m R u

@@ -1,5 +1,5 @@
 -- The code's operations on tallies, exit by exit.
---     plusCounts-…, timesCounts-…      the count of a sum, and of a product
+--     cappedSum-…, cappedProduct-…      the count of a sum, and of a product
 --     product-le                       a product that the division doesn't find past the limit
 --     isLarger-…, isBefore-…, keepsFirst-…     the tie rule, the order, and whose best a sum has
 --     plusTally-first, plusTally-second        a sum with the best of the first, or of the second
@@ -17,57 +17,57 @@ use lib.IntN.{ℤ, _+ℤ_}
 use lib.Signed.{ltZ}
 use Rattle.table.specs.declared.tally.Count.{Count}
 use Rattle.table.specs.declared.tally.Tally.{Tally}
-use Rattle.table.specs.Tally.{manyCount, exactCount, plusCounts, timesCounts, isLarger, isBefore, keepsFirst}
-use Rattle.table.specs.Tally.{noTally, withTuples, withCount, plusTally, joinTally, underTally}
+use Rattle.table.specs.Sums.{manyCount, exactCount, cappedSum, cappedProduct, isLarger, isBefore, keepsFirst}
+use Rattle.table.specs.Sums.{noTally, withTuples, withCount, plusTally, joinTally, underTally}
 
 -- ---- counts
 
 module _ (limit : ℕ) (a b : Tally) where
-  pub plusCounts-marked-l : a .mark ≡ 1 → plusCounts limit a b ≡ manyCount limit
-  unfolding plusCounts
-  plusCounts-marked-l h = simp (eq-eqb _ _ h)
+  pub cappedSum-marked-l : a .mark ≡ 1 → cappedSum limit a b ≡ manyCount limit
+  unfolding cappedSum
+  cappedSum-marked-l h = simp (eq-eqb _ _ h)
 
   module _ (f : a .mark ≢ 1) where
-    pub plusCounts-marked-r : b .mark ≡ 1 → plusCounts limit a b ≡ manyCount limit
-    unfolding plusCounts
-    plusCounts-marked-r h = simp (ne-eqb _ _ f, eq-eqb _ _ h)
+    pub cappedSum-marked-r : b .mark ≡ 1 → cappedSum limit a b ≡ manyCount limit
+    unfolding cappedSum
+    cappedSum-marked-r h = simp (ne-eqb _ _ f, eq-eqb _ _ h)
 
     module _ (g : b .mark ≢ 1) where
-      pub plusCounts-past : limit - b .count < a .count → plusCounts limit a b ≡ manyCount limit
-      unfolding plusCounts
-      plusCounts-past h = simp (ne-eqb _ _ f, ne-eqb _ _ g, lt-ltb _ _ h)
+      pub cappedSum-past : limit - b .count < a .count → cappedSum limit a b ≡ manyCount limit
+      unfolding cappedSum
+      cappedSum-past h = simp (ne-eqb _ _ f, ne-eqb _ _ g, lt-ltb _ _ h)
 
-      pub plusCounts-exact : a .count ≤ limit - b .count → plusCounts limit a b ≡ exactCount (a .count + b .count)
-      unfolding plusCounts
-      plusCounts-exact h = simp (ne-eqb _ _ f, ne-eqb _ _ g, le-ltb _ _ h)
+      pub cappedSum-exact : a .count ≤ limit - b .count → cappedSum limit a b ≡ exactCount (a .count + b .count)
+      unfolding cappedSum
+      cappedSum-exact h = simp (ne-eqb _ _ f, ne-eqb _ _ g, le-ltb _ _ h)
 
-  pub timesCounts-none-l : a .count ≡ 0 → timesCounts limit a b ≡ exactCount 0
-  unfolding timesCounts
-  timesCounts-none-l h = simp (eq-eqb _ _ h)
+  pub cappedProduct-none-l : a .count ≡ 0 → cappedProduct limit a b ≡ exactCount 0
+  unfolding cappedProduct
+  cappedProduct-none-l h = simp (eq-eqb _ _ h)
 
   module _ (p : a .count ≢ 0) where
-    pub timesCounts-none-r : b .count ≡ 0 → timesCounts limit a b ≡ exactCount 0
-    unfolding timesCounts
-    timesCounts-none-r h = simp (ne-eqb _ _ p, eq-eqb _ _ h)
+    pub cappedProduct-none-r : b .count ≡ 0 → cappedProduct limit a b ≡ exactCount 0
+    unfolding cappedProduct
+    cappedProduct-none-r h = simp (ne-eqb _ _ p, eq-eqb _ _ h)
 
     module _ (q : b .count ≢ 0) where
-      pub timesCounts-marked-l : a .mark ≡ 1 → timesCounts limit a b ≡ manyCount limit
-      unfolding timesCounts
-      timesCounts-marked-l h = simp (ne-eqb _ _ p, ne-eqb _ _ q, eq-eqb _ _ h)
+      pub cappedProduct-marked-l : a .mark ≡ 1 → cappedProduct limit a b ≡ manyCount limit
+      unfolding cappedProduct
+      cappedProduct-marked-l h = simp (ne-eqb _ _ p, ne-eqb _ _ q, eq-eqb _ _ h)
 
       module _ (f : a .mark ≢ 1) where
-        pub timesCounts-marked-r : b .mark ≡ 1 → timesCounts limit a b ≡ manyCount limit
-        unfolding timesCounts
-        timesCounts-marked-r h = simp (ne-eqb _ _ p, ne-eqb _ _ q, ne-eqb _ _ f, eq-eqb _ _ h)
+        pub cappedProduct-marked-r : b .mark ≡ 1 → cappedProduct limit a b ≡ manyCount limit
+        unfolding cappedProduct
+        cappedProduct-marked-r h = simp (ne-eqb _ _ p, ne-eqb _ _ q, ne-eqb _ _ f, eq-eqb _ _ h)
 
         module _ (g : b .mark ≢ 1) where
-          pub timesCounts-past : limit / b .count < a .count → timesCounts limit a b ≡ manyCount limit
-          unfolding timesCounts
-          timesCounts-past h = simp (ne-eqb _ _ p, ne-eqb _ _ q, ne-eqb _ _ f, ne-eqb _ _ g, lt-ltb _ _ h)
+          pub cappedProduct-past : limit / b .count < a .count → cappedProduct limit a b ≡ manyCount limit
+          unfolding cappedProduct
+          cappedProduct-past h = simp (ne-eqb _ _ p, ne-eqb _ _ q, ne-eqb _ _ f, ne-eqb _ _ g, lt-ltb _ _ h)
 
-          pub timesCounts-exact : a .count ≤ limit / b .count → timesCounts limit a b ≡ exactCount (a .count * b .count)
-          unfolding timesCounts
-          timesCounts-exact h = simp (ne-eqb _ _ p, ne-eqb _ _ q, ne-eqb _ _ f, ne-eqb _ _ g, le-ltb _ _ h)
+          pub cappedProduct-exact : a .count ≤ limit / b .count → cappedProduct limit a b ≡ exactCount (a .count * b .count)
+          unfolding cappedProduct
+          cappedProduct-exact h = simp (ne-eqb _ _ p, ne-eqb _ _ q, ne-eqb _ _ f, ne-eqb _ _ g, le-ltb _ _ h)
 
 pub product-le : (limit m n : ℕ) → n ≢ 0 → m ≤ limit / n → m * n ≤ limit
 product-le limit m zero f h = absurd (f refl)
@@ -118,20 +118,20 @@ module _ (limit : ℕ) (a b : Tally) (c : Count) where
   abbrev both : ℕ
   both = a .tuples + b .tuples
 
-  pub plusTally-first : c ≡ plusCounts limit a b → keepsFirst a b ≡ true → withCount a both c ≡ plusTally limit a b
+  pub plusTally-first : c ≡ cappedSum limit a b → keepsFirst a b ≡ true → withCount a both c ≡ plusTally limit a b
   unfolding plusTally
   plusTally-first e h = rw (e, h)
 
-  pub plusTally-second : c ≡ plusCounts limit a b → keepsFirst a b ≡ false → withCount b both c ≡ plusTally limit a b
+  pub plusTally-second : c ≡ cappedSum limit a b → keepsFirst a b ≡ false → withCount b both c ≡ plusTally limit a b
   unfolding plusTally
   plusTally-second e h = rw (e, h)
 
-  pub underTally-dead : (z : Tally) → c ≡ timesCounts limit a b → z ≡ noTally → c .count ≡ 0
+  pub underTally-dead : (z : Tally) → c ≡ cappedProduct limit a b → z ≡ noTally → c .count ≡ 0
       → withTuples z (b .tuples) ≡ underTally limit a b
   unfolding underTally
   underTally-dead z e f h = rw (← e, f, eq-eqb (c .count) 0 h)
 
-  pub underTally-live : (w : ℤ) → c ≡ timesCounts limit a b → w ≡ a .best +ℤ b .best → c .count ≢ 0
+  pub underTally-live : (w : ℤ) → c ≡ cappedProduct limit a b → w ≡ a .best +ℤ b .best → c .count ≢ 0
       → joinTally a b c w ≡ underTally limit a b
   unfolding underTally
   underTally-live w e f h = rw (← e, ← f, ne-eqb (c .count) 0 h)

@@ -1,5 +1,4 @@
 -- Rows that may be read: as parts they fall, keep what sums keep, and the code's form of one is its tally. Looking a row up.
---     scored-of-one, one-of-scored     state 1 is scored
 --     long-fewer, readable-fewer       fewer rows may be read too
 --     parts-fall               the parts fall
 --     part-keeps, parts-keep   the scored ones keep what sums keep; b is above all of them
@@ -10,38 +9,31 @@
 -- Assumes nothing.
 use mathlib.Core.Path.{_≡_, refl, sym, ap, _∙_, subst}
 use mathlib.Core.Logic.{_≢_}
-use mathlib.Core.Bool.{Bool, cond}
-use mathlib.Core.Option.{none}
+use mathlib.Core.Bool.{Bool, true, false, cond}
 use mathlib.Core.List.{List, map, List·Memᴰ as Mem}
 use Prim.Native.Nat.{ℕ, _≤_, _<_}
 use native.Mathlib.Decide.{decLt}
 use native.Mathlib.Nat.{le-refl}
 use native.Mathlib.Omega.{arith}
-use lib.Dec.{T, eqb→eq}
+use lib.Dec.{T}
 use lib.ListN.{getD}
 use Rattle.laws.specs.State.{scored}
 use Rattle.laws.specs.Limits.{wordValues}
 use Rattle.laws.specs.Row.{isScored}
 use Rattle.laws.proofs.Descends.{Descends}
-use Rattle.laws.proofs.Tests.{T-true, T-false, eq→eqb}
+use Rattle.laws.proofs.Down.{mem-down, down-mem}
+use Rattle.laws.proofs.Tests.{true-T}
 use Rattle.trees.specs.Rows.{Entry, cl, sc}
-use Rattle.trees.specs.Kind.{Res}
+use Rattle.trees.specs.Solution.{Res}
 use Rattle.trees.proofs.Searching.Search.{lookup, lookup-row, lookup-missing, search-one}
 use Rattle.kept.proofs.Laws.Clusters.{rising-part}
-use Rattle.table.specs.Tally.{tallyOf, noTally, decoded}
-use Rattle.table.specs.Searched.{Columns, rowOf, fieldsOf, partAt, partTally, partsOf, sumKind, sumCovers}
+use Rattle.table.specs.Tally.{tallyOf, decoded}
 use Rattle.table.specs.Searched.{Below, Long, Sound, Readable}
-use Rattle.table.proofs.Tuples.Searched.{mem-parts, parts-mem, parts-descend, sumCovers-search}
+use Rattle.table.specs.Columns.{Columns, rowOf, fieldsOf, partAt, partTally, partsOf, sumKind, sumCovers}
+use Rattle.table.specs.Sums.{noTally}
+use Rattle.table.proofs.Tuples.Searched.{parts-descend, sumCovers-search}
 use Rattle.table.proofs.Tallies.Decoded.{decoded-keeps, fields-tally}
 use Rattle.table.proofs.Tallies.Held.{Part}
-
-pub scored-of-one : (s : ℕ) → s ≡ 1 → T (scored s)
-unfolding scored
-scored-of-one s e = eq→eqb s 1 e
-
-pub one-of-scored : (s : ℕ) → T (scored s) → s ≡ 1
-unfolding scored
-one-of-scored s h = eqb→eq s 1 h
 
 -- ---- fewer rows
 
@@ -78,7 +70,7 @@ module _ (limit : ℕ) (k : Columns) (m n : ℕ) (h : m ≤ n) where
 abbrev pub LowWords : Columns → Type 0
 LowWords k = (i : ℕ) → getD (k .lows) i 0 < wordValues
 
-module _ (limit : ℕ) (k : Columns) (cs : List ℕ) (n : ℕ) (s : Sound limit k cs n) where
+module _ {limit : ℕ} {k : Columns} {cs : List ℕ} {n : ℕ} (s : Sound limit k cs n) where
   pub parts-fall : Descends (map cl (partsOf k n))
   parts-fall = parts-descend k n (s .rising .up) (s .nonzero)
 
@@ -92,7 +84,7 @@ module _ (limit : ℕ) (k : Columns) (cs : List ℕ) (n : ℕ) (s : Sound limit 
   pub parts-keep : (b : ℕ) → ((i : ℕ) → i < n → getD (k .clusters) i 0 < b)
       → (e : Entry Res) → Mem e (partsOf k n) → T (sc e) → Part cs b e
   parts-keep b top e m t =
-      let q = mem-parts k n e m in
+      let q = mem-down (partAt k) n e m in
       rw (q .2) (part-keeps b (q .0) (q .1) (top (q .0) (q .1)) (subst (λ (x : Entry Res). T (sc x)) (q .2) t))
 
   pub part-is : LowWords k → (i : ℕ) → i < n → T (isScored (rowOf k i)) → partTally k i ≡ tallyOf limit (1, decoded (fieldsOf k i))
@@ -101,7 +93,7 @@ module _ (limit : ℕ) (k : Columns) (cs : List ℕ) (n : ℕ) (s : Sound limit 
 
   -- ---- the one cover by one row
 
-  module _ (R : ℕ) (p : 0 < R) where
+  module _ {R : ℕ} (p : 0 < R) where
     one-is : sumCovers 1 R (partsOf k n) ≡ lookup sumKind R (partsOf k n)
     one-is = sumCovers-search 1 R (partsOf k n) parts-fall p ∙ search-one sumKind R (partsOf k n)
 
@@ -109,10 +101,10 @@ module _ (limit : ℕ) (k : Columns) (cs : List ℕ) (n : ℕ) (s : Sound limit 
     none-is f = ap (tallyOf limit) (sym (one-is ∙ lookup-missing sumKind R (partsOf k n) other))
       where
         other : (x : Entry Res) → Mem x (partsOf k n) → cl x ≢ R
-        other x m e = let q = mem-parts k n x m in f (q .0) (q .1) (sym (ap cl (q .2)) ∙ e)
+        other x m e = let q = mem-down (partAt k) n x m in f (q .0) (q .1) (sym (ap cl (q .2)) ∙ e)
 
     -- a is the number of rows below R
-    module _ (a : ℕ) (b : Below (k .clusters) n R a) where
+    module _ {a : ℕ} (b : Below (k .clusters) n R a) where
       pub missing-is : n ≤ a → noTally ≡ tallyOf limit (sumCovers 1 R (partsOf k n))
       missing-is h = none-is (λ i l e. omega (arith, b .less i (omega arith)))
 
@@ -130,16 +122,15 @@ module _ (limit : ℕ) (k : Columns) (cs : List ℕ) (n : ℕ) (s : Sound limit 
         row-is e =
             one-is
             ∙ subst (λ (x : ℕ). lookup sumKind x (partsOf k n) ≡ cond (sc (partAt k a)) (partAt k a .val) (sumKind .none)) e
-            (lookup-row sumKind (partsOf k n) parts-fall (partAt k a) (parts-mem k n a h))
+            (lookup-row sumKind (partsOf k n) parts-fall (partAt k a) (down-mem (partAt k) n a h))
 
-        pub unscored-is : getD (k .clusters) a 0 ≡ R → getD (k .states) a 0 ≢ 1 → noTally ≡ tallyOf limit (sumCovers 1 R (partsOf k n))
+        pub unscored-is : getD (k .clusters) a 0 ≡ R → scored (getD (k .states) a 0) ≡ false
+            → noTally ≡ tallyOf limit (sumCovers 1 R (partsOf k n))
         unscored-is e f =
-            let n = T-false (sc (partAt k a)) (λ t. f (one-of-scored (getD (k .states) a 0) t)) in
-            ap (tallyOf limit) (sym (row-is e ∙ ap (λ (t : Bool). cond t (partAt k a .val) (sumKind .none)) n))
+            ap (tallyOf limit) (sym (row-is e ∙ ap (λ (t : Bool). cond t (partAt k a .val) (sumKind .none)) f))
 
-        pub found-is : LowWords k → getD (k .clusters) a 0 ≡ R → getD (k .states) a 0 ≡ 1
+        pub found-is : LowWords k → getD (k .clusters) a 0 ≡ R → scored (getD (k .states) a 0) ≡ true
             → partTally k a ≡ tallyOf limit (sumCovers 1 R (partsOf k n))
         found-is w e f =
-            let t = scored-of-one (getD (k .states) a 0) f in
-            part-is w a h t
-            ∙ ap (tallyOf limit) (sym (row-is e ∙ ap (λ (b : Bool). cond b (partAt k a .val) (sumKind .none)) (T-true (sc (partAt k a)) t)))
+            part-is w a h (true-T f)
+            ∙ ap (tallyOf limit) (sym (row-is e ∙ ap (λ (b : Bool). cond b (partAt k a .val) (sumKind .none)) f))

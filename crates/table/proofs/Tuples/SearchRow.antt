@@ -22,30 +22,34 @@ use mir.Syntax.{w64}
 use mir.Val.{SFits}
 use Rattle.laws.specs.Cluster.{inside, highest}
 use Rattle.laws.specs.Limits.{wordValues}
+use Rattle.laws.specs.State.{scored}
 use Rattle.laws.proofs.Cluster.{le-of-inside}
 use Rattle.laws.proofs.Taxa.{highest-le, highest-gt}
 use Rattle.laws.proofs.Tests.{true-T}
 use Rattle.trees.specs.Rows.{Entry, sc}
-use Rattle.trees.specs.Kind.{timesSol, Res}
+use Rattle.trees.specs.Solution.{timesSol, Res}
 use Rattle.trees.proofs.Counting.Capped.{Counted}
 use Rattle.trees.proofs.Searching.Leads.{leads, leads-of-reach}
 use Rattle.trees.proofs.Searching.Search.{gain, gain-whole, gain-part}
 use Rattle.table.specs.declared.tally.Tally.{Tally}
-use Rattle.table.specs.Tally.{tallyOf, underTally}
-use Rattle.table.specs.Searched.{Columns, partAt, partTally, partsOf, sumKind, sumCovers, Below, Searchable}
+use Rattle.table.specs.Tally.{tallyOf}
+use Rattle.table.specs.Searched.{Below, Searchable}
+use Rattle.table.specs.Columns.{Columns, partAt, partTally, partsOf, sumKind, sumCovers}
+use Rattle.table.specs.Sums.{underTally}
 use Rattle.table.proofs.Tuples.Searched.{below-mono, parts-within, sumCovers-search, sumCovers-local}
 use Rattle.table.proofs.Tallies.CoverSums.{sumCovers-keeps}
 use Rattle.table.proofs.Tallies.Encoded.{tally-under}
 use Rattle.table.proofs.Tallies.Held.{Keeps, keeps-counted, keeps-times, Part}
 use Rattle.table.proofs.Tallies.Overflow.{Safe, part-clear, part-safe}
-use Rattle.table.proofs.Tuples.Readable.{LowWords, scored-of-one, readable-fewer, part-keeps, part-is}
+use Rattle.table.proofs.Tuples.Readable.{LowWords, readable-fewer, part-keeps, part-is}
 use Rattle.table.proofs.Tuples.Searchable.{topOf, taxon-fits, searched-fall, rows-below, searched-keep}
 
-pub record Led (k : Columns) (starts : List ℕ) (end R j : ℕ) : Type 0 where
+pub record Led (limit : ℕ) (k : Columns) (starts : List ℕ) (end R j : ℕ) : Type 0 where
+  pub asked : Searchable limit k starts end R
   pub place : j < end
   pub reached : getD starts (highest R) 0 ≤ j
   pub within : inside (getD (k .clusters) j 0) R ≡ true
-  pub scored : getD (k .states) j 0 ≡ 1
+  pub scored : scored (getD (k .states) j 0) ≡ true
   pub words : LowWords k
 
 -- row j adds g, of which the code has the tally t
@@ -53,12 +57,14 @@ pub record Adds (limit : ℕ) (k : Columns) (end R left j : ℕ) (t : Tally) : T
   pub scored : T (sc (partAt k j))
   pub leads : T (leads (getD (k .clusters) j 0) R)
   pub g : Res
-  pub told : t ≡ tallyOf limit g
+  pub tally : t ≡ tallyOf limit g
   pub counted : Counted (g .1)
   pub gains : gain sumKind (left - 1) R (partsOf k end) (partAt k j) ≡ g
 
-module _ (limit : ℕ) (k : Columns) (starts : List ℕ) (end R left : ℕ) (s : Searchable limit k starts end R) (j : ℕ)
-    (h : Led k starts end R j) where
+module _ {limit : ℕ} {k : Columns} {starts : List ℕ} {end R j : ℕ} (left : ℕ) (h : Led limit k starts end R j) where
+  abbrev s : Searchable limit k starts end R
+  s = h .asked
+
   abbrev c : ℕ
   c = getD (k .clusters) j 0
 
@@ -75,38 +81,38 @@ module _ (limit : ℕ) (k : Columns) (starts : List ℕ) (end R left : ℕ) (s :
   is-inside = true-T (h .within)
 
   is-scored : T (sc e)
-  is-scored = scored-of-one (getD (k .states) j 0) (h .scored)
+  is-scored = true-T (h .scored)
 
   reaches : 2 ^ highest R ≤ c
   reaches =
-      let small = taxon-fits limit k starts end R s in
+      let small = taxon-fits s in
       s .begins .each (highest R) (omega arith) .more j (h .reached) (omega (arith, h .place, s .within))
 
   is-led : T (leads c R)
-  is-led = leads-of-reach c R (s .some) is-inside reaches
+  is-led = leads-of-reach c R (s .nonzero) is-inside reaches
 
   own : Part cs b e
-  own = part-keeps limit k cs end (s .readable .sound) b j (h .place) (rows-below limit k starts end R s j (h .place)) is-scored
+  own = part-keeps (s .readable .sound) b j (h .place) (rows-below s j (h .place)) is-scored
 
   own-is : partTally k j ≡ tallyOf limit (e .val)
-  own-is = part-is limit k cs end (s .readable .sound) (h .words) j (h .place) is-scored
+  own-is = part-is (s .readable .sound) (h .words) j (h .place) is-scored
 
   own-counted : Counted (e .val .1)
   own-counted = keeps-counted cs b 1 c (e .val .1) (own .keeps)
 
-  pub whole-adds : (one : Tally) → one ≡ partTally k j → R - c ≡ 0 → Adds limit k end R left j one
-  whole-adds one p z = record {
+  pub whole-adds : {one : Tally} → one ≡ partTally k j → R - c ≡ 0 → Adds limit k end R left j one
+  whole-adds p z = record {
     scored = is-scored;
     leads = is-led;
     g = e .val;
-    told = p ∙ own-is;
+    tally = p ∙ own-is;
     counted = own-counted;
     gains = gain-whole sumKind (left - 1) R (partsOf k end) e (omega (arith, le-of-inside c R is-inside));
   }
 
   -- ---- a part, which leaves something; hi is the highest taxon of that
 
-  module _ (some-left : R - c ≢ 0) (hi : ℕ) (is-highest : hi ≡ highest (R - c)) where
+  module _ (some-left : R - c ≢ 0) {hi : ℕ} (is-highest : hi ≡ highest (R - c)) where
     abbrev other : ℕ
     other = R - c
 
@@ -117,7 +123,7 @@ module _ (limit : ℕ) (k : Columns) (starts : List ℕ) (end R left : ℕ) (s :
     other-pos = omega arith
 
     other-lt : other < 2 ^ highest R
-    other-lt = omega (arith, highest-gt R (s .some), reaches)
+    other-lt = omega (arith, highest-gt R (s .nonzero), reaches)
 
     lower : hi < highest R
     lower = go (decLt hi (highest R))
@@ -129,7 +135,7 @@ module _ (limit : ℕ) (k : Columns) (starts : List ℕ) (end R left : ℕ) (s :
             absurd (omega (arith, highest-le other other-pos, other-lt, ap (λ (t : ℕ). 2 ^ t) is-highest))
 
     pub next-place : hi + 1 < 65
-    next-place = omega (arith, lower, taxon-fits limit k starts end R s)
+    next-place = omega (arith, lower, taxon-fits s)
 
     next-below : Below (k .clusters) (s .rows) (2 ^ (hi + 1)) next
     next-below = s .begins .each (hi + 1) (omega (arith, next-place))
@@ -154,7 +160,7 @@ module _ (limit : ℕ) (k : Columns) (starts : List ℕ) (end R left : ℕ) (s :
       capped = s .capped;
       rising = s .rising;
       begins = s .begins;
-      some = other-pos;
+      nonzero = other-pos;
       small = omega (arith, s .small);
       run = below-mono (k .clusters) (s .rows) _ (2 ^ (hi + 1)) _ _ (pow-mono (omega (arith, is-highest)))
           (s .begins .each (highest other) (omega (arith, is-highest, next-place))) next-below;
@@ -172,34 +178,34 @@ module _ (limit : ℕ) (k : Columns) (starts : List ℕ) (end R left : ℕ) (s :
         (λ i l m. omega (arith, next-gt, next-below .more i l (omega (arith, s .within)))))
 
     y-keeps : Keeps cs b 0 other (y .1)
-    y-keeps = sumCovers-keeps cs b (partsOf k end) (searched-keep limit k starts end R s) (left - 1) other
+    y-keeps = sumCovers-keeps cs b (partsOf k end) (searched-keep s) (left - 1) other
 
     gains-part : gain sumKind (left - 1) R (partsOf k end) e ≡ sumKind .times (e .val) y
     gains-part =
-        let fall = searched-fall limit k starts end R s in
+        let fall = searched-fall s in
         gain-part sumKind (left - 1) R (partsOf k end) e (omega arith)
         ∙ ap (sumKind .times (e .val)) (sym (sumCovers-search (left - 1) other (partsOf k end) fall other-pos))
 
-    module _ (one inner : Tally) (p : one ≡ partTally k j) (q : inner ≡ tallyOf limit (sumCovers (left - 1) other (partsOf k next))) where
-      inner-told : inner ≡ tallyOf limit y
-      inner-told = q ∙ ap (tallyOf limit) inner-is
+    module _ {one inner : Tally} (p : one ≡ partTally k j) (q : inner ≡ tallyOf limit (sumCovers (left - 1) other (partsOf k next))) where
+      inner-tally : inner ≡ tallyOf limit y
+      inner-tally = q ∙ ap (tallyOf limit) inner-is
 
       safe : Safe one inner
       safe =
           let short = s .readable .sound .short in
-          subst₂ Safe (sym (p ∙ own-is)) (sym inner-told)
+          subst₂ Safe (sym (p ∙ own-is)) (sym inner-tally)
           (part-safe cs b 1 0 c R (e .val .1) (y .1) short is-inside (own .keeps) y-keeps limit (y .0) (s .small))
 
       pub under-asks : SFits w64 (one .best +ℤ inner .best)
           × ((one .low + inner .low < wordValues) × (one .high + inner .high < wordValues))
       under-asks = (safe .best, (safe .low, safe .high))
 
-      pub part-adds : (u : Tally) → u ≡ underTally limit one inner → Adds limit k end R left j u
-      part-adds u d = record {
+      pub part-adds : {u : Tally} → u ≡ underTally limit one inner → Adds limit k end R left j u
+      part-adds d = record {
         scored = is-scored;
         leads = is-led;
         g = sumKind .times (e .val) y;
-        told = d ∙ ap₂ (underTally limit) (p ∙ own-is) inner-told ∙ under;
+        tally = d ∙ ap₂ (underTally limit) (p ∙ own-is) inner-tally ∙ under;
         counted = keeps-counted cs b 1 R (timesSol (e .val .1) (y .1)) both;
         gains = gains-part;
       }

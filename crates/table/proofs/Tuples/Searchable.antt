@@ -13,14 +13,15 @@ use native.Mathlib.Omega.{arith}
 use lib.Dec.{T}
 use lib.ListN.{getD}
 use Rattle.laws.specs.Cluster.{highest}
-use Rattle.laws.specs.Limits.{wordValues}
+use Rattle.laws.specs.Limits.{degreeHigh, wordValues}
 use Rattle.laws.proofs.Descends.{Descends}
+use Rattle.laws.proofs.Down.{down-length}
 use Rattle.laws.proofs.Taxa.{highest-le}
 use Rattle.trees.specs.Rows.{Entry, cl, sc}
-use Rattle.trees.specs.Kind.{Res}
+use Rattle.trees.specs.Solution.{Res}
 use Rattle.kept.proofs.Laws.Marks.{highest-lt}
-use Rattle.table.specs.Searched.{Columns, partsOf, sumCovers, Past, Searchable}
-use Rattle.table.proofs.Tuples.Searched.{parts-length}
+use Rattle.table.specs.Searched.{Past, Searchable}
+use Rattle.table.specs.Columns.{Columns, partAt, partsOf, sumCovers}
 use Rattle.table.proofs.Tallies.CoverSums.{sumCovers-few}
 use Rattle.table.proofs.Tallies.Held.{Part}
 use Rattle.table.proofs.Tuples.Readable.{parts-fall, parts-keep}
@@ -29,30 +30,30 @@ use Rattle.table.proofs.Tuples.Readable.{parts-fall, parts-keep}
 abbrev pub topOf : ℕ → ℕ
 topOf R = 2 ^ suc (highest R)
 
-module _ (limit : ℕ) (k : Columns) (starts : List ℕ) (end R : ℕ) (s : Searchable limit k starts end R) where
+module _ {limit : ℕ} {k : Columns} {starts : List ℕ} {end R : ℕ} (s : Searchable limit k starts end R) where
   pub taxon-fits : highest R < 64
-  taxon-fits = highest-lt 64 R (s .some) (s .small)
+  taxon-fits = highest-lt 64 R (s .nonzero) (s .small)
 
   -- the last child isn't among the rows below the highest taxon
   pub start-past : (start : ℕ) → start ≡ getD starts (highest R) 0 → Past (k .clusters) end R start
   start-past start e = record {
     within = omega (arith, s .run);
-    less = λ i l. omega (arith, s .begins .each (highest R) (omega (arith, taxon-fits)) .less i (omega arith), highest-le R (s .some));
+    less = λ i l. omega (arith, s .begins .each (highest R) (omega (arith, taxon-fits)) .less i (omega arith), highest-le R (s .nonzero));
   }
 
   pub searched-fall : Descends (map cl (partsOf k end))
-  searched-fall = parts-fall limit k (s .readable .cs) end (s .readable .sound)
+  searched-fall = parts-fall (s .readable .sound)
 
   pub rows-below : (j : ℕ) → j < end → getD (k .clusters) j 0 < topOf R
   rows-below j l = s .begins .each (suc (highest R)) taxon-fits .less j (omega (arith, s .reach))
 
   pub searched-keep : (e : Entry Res) → Mem e (partsOf k end) → T (sc e) → Part (s .readable .cs) (topOf R) e
-  searched-keep = parts-keep limit k (s .readable .cs) end (s .readable .sound) (topOf R) rows-below
+  searched-keep = parts-keep (s .readable .sound) (topOf R) rows-below
 
-  pub searched-few : (left : ℕ) → left ≤ 4 → sumCovers left R (partsOf k end) .0 < wordValues
+  pub searched-few : (left : ℕ) → left < degreeHigh → sumCovers left R (partsOf k end) .0 < wordValues
   searched-few left h =
       let rows : suc end ^ left ≤ 129 ^ left = pow-le-pow-left (omega (arith, s .within, s .capped)) left in
-      let tuples : 129 ^ left ≤ 129 ^ 4 = pow-le-pow-right (omega arith) h in
+      let tuples : 129 ^ left ≤ 129 ^ 4 = pow-le-pow-right (omega arith) (let most : left ≤ 4 = omega arith in most) in
       let all = sumCovers-few (s .readable .cs) (topOf R) (partsOf k end) searched-keep left R in
-      let counted = subst (λ (n : ℕ). sumCovers left R (partsOf k end) .0 ≤ suc n ^ left) (parts-length k end) all in
+      let counted = subst (λ (n : ℕ). sumCovers left R (partsOf k end) .0 ≤ suc n ^ left) (down-length (partAt k) end) all in
       omega arith

@@ -3,16 +3,15 @@
 --     Between, between-…       what bisection keeps: the first are below, the last are not
 --     below-le, below-mono     the place is not after a row that isn't below, nor after that of a larger number
 --     Begun, begun-none, begun-more, starts-of-begun     where each highest taxon starts, taxon by taxon
---     mem-parts, parts-mem, parts-length      the parts of the first rows are those rows
---     parts-descend            they fall
+--     parts-descend            the parts of the first rows fall
 --     parts-within             rows above a bound in front leave the others as they are
 --     sumCovers-over           the sum over the covers by scored rows
 --     sumCovers-search, sumCovers-local       it is the search, and rows above what is covered play no part
 -- Assumes nothing.
 use mathlib.Core.Path.{_≡_, refl, sym, ap, _∙_, subst}
 use mathlib.Core.Bool.{Bool}
-use mathlib.Core.List.{List, map, Memᴰ·of-map}
-use mathlib.Core.List.{List·Memᴰ as Mem, List·Memᴰ·head as here, List·Memᴰ·tail as there}
+use mathlib.Core.Logic.{_≢_}
+use mathlib.Core.List.{List, map, List·Memᴰ as Mem}
 use Prim.Native.Nat.{ℕ, zero, suc, _+_, _*_, _%_, _^_, _≤_, _<_}
 use native.Mathlib.Decide.{ℕ-discrete, decLe, decLt}
 use native.Mathlib.Nat.{le-refl, one-mul}
@@ -22,19 +21,22 @@ use lib.Dec.{T, leb, leb→le, lit<}
 use lib.ListN.{length, getD, set, replicate, length-set, length-replicate, getD-replicate}
 use lib.Pow.{shl-exact}
 use lib.Seq.{getD-set-same, getD-set-other}
-use Rattle.laws.specs.Lists.{keepIf, keep}
-use Rattle.laws.proofs.Descends.{Descends}
+use Rattle.laws.specs.Lists.{keepIf, keep, downTo}
+use Rattle.laws.proofs.Descends.{Descends, descends-of-falling}
+use Rattle.laws.proofs.Down.{down-map, mem-down, down-falling}
 use Rattle.laws.proofs.Tests.{T-false}
 use Rattle.trees.specs.Rows.{Entry, cl, sc}
-use Rattle.trees.specs.Kind.{overTuples, countKind, solKind, Res}
+use Rattle.trees.specs.Kind.{overTuples}
 use Rattle.trees.specs.Cover.{coversOf}
+use Rattle.trees.specs.Solution.{countKind, solKind, Res}
 use Rattle.trees.proofs.Counting.Keys.{count-lawful, sol-lawful}
 use Rattle.trees.proofs.Formula.Kind.{Lawful, pair-lawful}
 use Rattle.trees.proofs.Searching.Leads.{within, coversOf-scored}
 use Rattle.trees.proofs.Searching.Search.{search}
 use Rattle.trees.proofs.Searching.SearchSum.{search-is}
 use Rattle.kept.specs.Arrays.{Rising}
-use Rattle.table.specs.Searched.{Columns, partAt, partsOf, sumKind, sumCovers, Past, Below, Starts}
+use Rattle.table.specs.Searched.{Past, Below, Starts}
+use Rattle.table.specs.Columns.{Columns, partAt, partsOf, sumKind, sumCovers}
 
 -- ---- bisection
 
@@ -142,34 +144,15 @@ module _ (cs : List ℕ) (n : ℕ) where
 -- ---- the rows as parts
 
 module _ (k : Columns) where
-  pub parts-length : (n : ℕ) → length (partsOf k n) ≡ n
-  parts-length zero = refl
-  parts-length (suc n) = ap suc (parts-length n)
-
-  pub mem-parts : (n : ℕ) (e : Entry Res) → Mem e (partsOf k n) → (i : ℕ) × (i < n) × (e ≡ partAt k i)
-  mem-parts (suc n) e (here q) = (n, omega arith, q)
-  mem-parts (suc n) e (there m) = let q = mem-parts n e m in (q .0, omega (arith, q .1), q .2)
-
-  pub parts-mem : (n i : ℕ) → i < n → Mem (partAt k i) (partsOf k n)
-  parts-mem zero i h = absurd (omega arith)
-  parts-mem (suc n) i h = go (ℕ-discrete i n) (λ l. parts-mem n i l)
-    where
-      go : Dec (i ≡ n) → (i < n → Mem (partAt k i) (partsOf k n)) → Mem (partAt k i) (partsOf k (suc n))
-      go (yes e) r = here (ap (partAt k) e)
-      go (no f) r = there (r (omega arith))
-
   pub parts-descend : (n : ℕ) → ((i j : ℕ) → i < j → j < n → getD (k .clusters) i 0 < getD (k .clusters) j 0)
       → ((i : ℕ) → i < n → 0 < getD (k .clusters) i 0) → Descends (map cl (partsOf k n))
-  parts-descend zero up nz = tt
-  parts-descend (suc n) up nz =
-      let rest = parts-descend n (λ i j h l. up i j h (omega arith)) (λ i h. nz i (omega arith)) in
-      (record { nonzero = nz n (omega arith); larger = lower }, rest)
+  parts-descend n up nz = rw (down-map cl (partAt k) n) (descends-of-falling _ (down-falling at n up) full)
     where
-      lower : (c : ℕ) → Mem c (map cl (partsOf k n)) → c < getD (k .clusters) n 0
-      lower c m =
-          let q = Memᴰ·of-map cl (partsOf k n) m in
-          let p = mem-parts n (q .0) (q .1) in
-          omega (arith, q .2, ap cl (p .2), up (p .0) n (p .1) (omega arith))
+      at : ℕ → ℕ
+      at i = getD (k .clusters) i 0
+
+      full : (c : ℕ) → Mem c (downTo at n) → c ≢ 0
+      full c m e = let q = mem-down at n c m in omega (arith, q .2, nz (q .0) (q .1))
 
   -- the rows from m on are above b
   pub parts-within : (b m n : ℕ) → m ≤ n → ((i : ℕ) → m ≤ i → i < n → b < getD (k .clusters) i 0)

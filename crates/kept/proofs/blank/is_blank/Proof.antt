@@ -1,7 +1,6 @@
 -- `kept::blank::is_blank` meets its contract: the two counts, then the rest. Assumes nothing.
 use borrow.Author.Needs.{needs}
 use borrow.Author.Tests.{eq-eqb, ne-eqb}
-use mathlib.Core.Path.{sym, _∙_}
 use Rattle.kept.proofs.blank.is_blank.Statement.{statement}
 use Rattle.kept.proofs.blank.is_blank.Tie as tie
 

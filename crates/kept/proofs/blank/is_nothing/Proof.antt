@@ -25,7 +25,8 @@ returns-3 : tie.Need-returns-3
 returns-3 c =
     let high = c .before .before in
     let low = high .before .before in
-    sym (nothing-is (low .before .before .args .row) ∙ rw (eq-eqb _ _ (low .if1 .left), eq-eqb _ _ (high .if2 .left), ne-eqb _ _ (c .if3 .taken)))
+    sym (nothing-is (low .before .before .args .row)
+    ∙ rw (eq-eqb _ _ (low .if1 .left), eq-eqb _ _ (high .if2 .left), ne-eqb _ _ (c .if3 .taken)))
 
 returns-4 : tie.Need-returns-4
 returns-4 c =

@@ -56,18 +56,16 @@ returns : tie.Need-returns Inv-loop μ-loop
 returns c =
     let inside = in-loop (c .before .before) in
     let at-loop = inside .before in
-    let a = at-loop .before .args in
     let wrong = failed (right-told (c .before)) (c .if1 .taken) in
-    sym (at-loop .loop .inv .1 ∙ right-stop narrow (clustersDown (a .t1 .clusters) (a .n)) (a .t1) (a .n) (at-loop .loop .i) (inside .loop-test .taken) wrong)
+    sym (at-loop .loop .inv .1 ∙ right-stop _ _ _ _ (at-loop .loop .i) (inside .loop-test .taken) wrong)
 
 loop-again : tie.Need-loop-again Inv-loop μ-loop
 loop-again c =
     let inside = in-loop (c .before .before) in
     let at-loop = inside .before in
-    let a = at-loop .before .args in
     let right = passed (right-told (c .before)) (c .if1 .left) in (
       omega (arith, at-loop .loop .inv .0),
-      at-loop .loop .inv .1 ∙ right-more narrow (clustersDown (a .t1 .clusters) (a .n)) (a .t1) (a .n) (at-loop .loop .i) (inside .loop-test .taken) right,
+      at-loop .loop .inv .1 ∙ right-more _ _ _ _ (at-loop .loop .i) (inside .loop-test .taken) right,
     )
 
 returns-2 : tie.Need-returns-2 Inv-loop μ-loop

@@ -27,6 +27,10 @@ abbrev μ-loop : tie.MeasureT-loop
 loop-holds : tie.Need-loop-holds Inv-loop μ-loop
 loop-holds c = (omega arith, refl)
 
+-- ---- places
+abbrev at-bit : tie.After-is-inside Inv-loop μ-loop → tie.After-highest Inv-loop μ-loop
+at-bit c = c .before .before .before
+
 -- ---- the highest set bit
 bit-set : (c : tie.After-highest Inv-loop μ-loop) → Marked (c .before .before .loop .rest) (c .highest .result)
 bit-set c = rw (c .highest .ensures) (mark-highest (c .before .before .loop .rest) (omega arith))
@@ -37,55 +41,43 @@ bit-lt c = mark-lt 64 (c .before .before .loop .rest) (c .highest .result) (omeg
 bit-le : (c : tie.After-highest Inv-loop μ-loop) → 2 ^ c .highest .result ≤ c .before .before .loop .rest
 bit-le c = rw (c .highest .ensures) (highest-le (c .before .before .loop .rest) (omega arith))
 
-cast-j : tie.Need-cast-j Inv-loop μ-loop
-cast-j c = record { fits = omega (arith, bit-lt c) }
-
-add-j : tie.Need-add-j Inv-loop μ-loop
-add-j c = record { fits = omega (arith, bit-lt c) }
-
 returns : tie.Need-returns Inv-loop μ-loop
 returns c =
-    let at-bit = c .before in
-    let at-loop = at-bit .before .before in
+    let bit = c .before in
+    let at-loop = bit .before .before in
     let a = at-loop .before .before .args in
     let p = isMarkFit (now (a .clusters)) (a .n) (a .cluster) (a .base) in
-    let past : p (at-bit .highest .result) ≡ false = rw (le-ltb _ _ (c .if1 .taken)) in
-    sym (at-loop .loop .inv .1 ∙ everyBit-fails 64 p (at-loop .loop .rest) (at-bit .highest .result) (bit-lt at-bit) (bit-set at-bit) past)
+    let past : p (bit .highest .result) ≡ false = rw (le-ltb _ _ (c .if1 .taken)) in
+    sym (at-loop .loop .inv .1 ∙ everyBit-fails 64 p (at-loop .loop .rest) (bit .highest .result) (bit-lt bit) (bit-set bit) past)
 
 returns-2 : tie.Need-returns-2 Inv-loop μ-loop
 returns-2 c =
-    let at-bit = c .before .before .before .before in
-    let at-loop = at-bit .before .before in
+    let bit = at-bit (c .before) in
+    let at-loop = bit .before .before in
     let a = at-loop .before .before .args in
     let p = isMarkFit (now (a .clusters)) (a .n) (a .cluster) (a .base) in
     let outside = failed (c .before .is-inside .ensures) (c .if2 .taken) in
-    let fails : p (at-bit .highest .result) ≡ false = rw (lt-ltb _ _ (c .before .before .before .if1 .left), outside) in
-    sym (at-loop .loop .inv .1 ∙ everyBit-fails 64 p (at-loop .loop .rest) (at-bit .highest .result) (bit-lt at-bit) (bit-set at-bit) fails)
-
-cast-rest : tie.Need-cast-rest Inv-loop μ-loop
-cast-rest c = record { fits = omega (arith, bit-lt (c .before .before .before .before)) }
-
-shl-rest : tie.Need-shl-rest Inv-loop μ-loop
-shl-rest c = bit-lt (c .before .before .before .before)
+    let fails : p (bit .highest .result) ≡ false = rw (lt-ltb _ _ (c .before .before .before .if1 .left), outside) in
+    sym (at-loop .loop .inv .1 ∙ everyBit-fails 64 p (at-loop .loop .rest) (bit .highest .result) (bit-lt bit) (bit-set bit) fails)
 
 sub-rest : tie.Need-sub-rest Inv-loop μ-loop
-sub-rest c = let at-bit = c .before .before .before .before in rw (shifted _ (bit-lt at-bit)) (bit-le at-bit)
+sub-rest c = let bit = at-bit (c .before) in rw (shifted _ (bit-lt bit)) (bit-le bit)
 
 loop-less : tie.Need-loop-less Inv-loop μ-loop
 loop-less c =
-    let at-bit = c .before .before .before .before in
-    rw (shifted _ (bit-lt at-bit)) (omega (arith, bit-le at-bit, pow-pos (at-bit .highest .result)))
+    let bit = at-bit (c .before) in
+    rw (shifted _ (bit-lt bit)) (omega (arith, bit-le bit, pow-pos (bit .highest .result)))
 
 loop-again : tie.Need-loop-again Inv-loop μ-loop
 loop-again c =
-    let at-bit = c .before .before .before .before in
-    let at-loop = at-bit .before .before in
+    let bit = at-bit (c .before) in
+    let at-loop = bit .before .before in
     let a = at-loop .before .before .args in
     let p = isMarkFit (now (a .clusters)) (a .n) (a .cluster) (a .base) in
     let within = passed (c .before .is-inside .ensures) (c .if2 .left) in
-    let passes : p (at-bit .highest .result) ≡ true = rw (lt-ltb _ _ (c .before .before .before .if1 .left), within) in
-    rw (shifted _ (bit-lt at-bit))
-    (omega arith, at-loop .loop .inv .1 ∙ everyBit-drop 64 p (at-loop .loop .rest) (at-bit .highest .result) (bit-set at-bit) passes)
+    let passes : p (bit .highest .result) ≡ true = rw (lt-ltb _ _ (c .before .before .before .if1 .left), within) in
+    rw (shifted _ (bit-lt bit))
+    (omega arith, at-loop .loop .inv .1 ∙ everyBit-drop 64 p (at-loop .loop .rest) (bit .highest .result) (bit-set bit) passes)
 
 returns-3 : tie.Need-returns-3 Inv-loop μ-loop
 returns-3 c =
@@ -102,15 +94,15 @@ is-word-fit-spec =
     μ-loop
     loop-holds
     (λ c κs. search needs)
-    cast-j
-    add-j
+    (λ c. record { fits = omega (arith, bit-lt c) })
+    (λ c. record { fits = omega (arith, bit-lt c) })
     returns
     (λ c. omega arith)
     (λ c. omega arith)
     (λ c κs. search needs)
     returns-2
-    cast-rest
-    shl-rest
+    (λ c. record { fits = omega (arith, bit-lt (at-bit (c .before))) })
+    (λ c. bit-lt (at-bit (c .before)))
     sub-rest
     loop-less
     loop-again

@@ -42,4 +42,6 @@ returns-2 c =
     rw (toZ-ofZ (s .fits .best), back s) (within-high (weightMax * (2 * s .args .taxa - 1)) (s .args .best) above)
 
 pub is-light-spec : {M : Type 1} → statement M
-is-light-spec = tie.close (tie.spec (λ c. search needs) (λ c. search needs) (λ c. search needs) (λ c. search needs) mul-most-2 sub-if1 returns returns-2)
+is-light-spec =
+    tie.close
+    (tie.spec (λ c. search needs) (λ c. search needs) (λ c. search needs) (λ c. search needs) mul-most-2 sub-if1 returns returns-2)

@@ -1,5 +1,5 @@
--- `kept::results::is_matched` meets its contract: a count of zero by itself, and any other by the row's own mark, the two words of marks and
--- the best weight. Assumes nothing.
+-- `kept::results::is_matched` meets its contract: a count of zero by itself, and any other by the row's own mark, the two words of marks
+-- and the best weight. Assumes nothing.
 use borrow.Author.Needs.{needs}
 use borrow.Author.Tests.{eq-eqb}
 use mathlib.Core.Path.{_≡_, sym, _∙_}
@@ -45,9 +45,6 @@ live c =
     (c .if1 .left) (p .rising) (p .place) (p .own)
 
 -- ---- the exits
-is-nothing-requires : tie.Need-is-nothing-requires
-is-nothing-requires c κs = search needs
-
 returns : tie.Need-returns
 returns c = rw (eq-eqb _ _ (c .before .if1 .taken)) (c .is-nothing .ensures)
 
@@ -100,7 +97,7 @@ pub is-matched-spec : {M : Type 1} → statement M
 is-matched-spec =
     tie.close
     (tie.spec
-    is-nothing-requires
+    (λ c κs. search needs)
     returns
     (λ c κs. search needs)
     returns-2

@@ -2,7 +2,8 @@
 -- most n. The measure is the places left. Assumes nothing.
 use borrow.Author.Tests.{eq-eqb, ne-eqb}
 use mathlib.Core.Path.{_≡_, sym, _∙_}
-use Prim.Native.Nat.{_-_, _≤_}
+use mathlib.Core.Bool.{Bool}
+use Prim.Native.Nat.{ℕ, _-_, _≤_}
 use native.Mathlib.Nat.{sub-zero}
 use native.Mathlib.Omega.{arith}
 use denote.Ref.{now}
@@ -22,26 +23,24 @@ abbrev μ-loop : tie.MeasureT-loop
 loop-holds : tie.Need-loop-holds Inv-loop μ-loop
 loop-holds c = (omega arith, rw sub-zero)
 
+-- the test of one place
+abbrev passes : tie.In-loop Inv-loop μ-loop → ℕ → Bool
+passes c = let a = c .before .before .args in isClusterAt (now (a .clusters)) (a .cluster)
+
 returns : tie.Need-returns Inv-loop μ-loop
 returns c =
-    let at-loop = c .before .before .before in
-    let a = at-loop .before .args in
-    let found = first-stopped (isClusterAt (now (a .clusters)) (a .cluster)) (at-loop .loop .i) (a .n) (omega arith) (eq-eqb _ _ (c .if1 .taken)) in
-    sym (at-loop .loop .inv .1 ∙ found)
+    let turn = c .before .before in
+    let i = turn .before .loop .i in
+    sym (turn .before .loop .inv .1 ∙ first-stopped (passes turn) i _ (turn .loop-test .taken) (eq-eqb _ _ (c .if1 .taken)))
 
 loop-again : tie.Need-loop-again Inv-loop μ-loop
 loop-again c =
-    let at-loop = c .before .before .before in
-    let a = at-loop .before .args in
-    let more = first-passed (isClusterAt (now (a .clusters)) (a .cluster)) (at-loop .loop .i) (a .n) (omega arith) (ne-eqb _ _ (c .if1 .left)) in
-    (omega arith, at-loop .loop .inv .1 ∙ more)
+    let turn = c .before .before in
+    let i = turn .before .loop .i in
+    (omega arith, turn .before .loop .inv .1 ∙ first-passed (passes turn) i _ (turn .loop-test .taken) (ne-eqb _ _ (c .if1 .left)))
 
 returns-2 : tie.Need-returns-2 Inv-loop μ-loop
-returns-2 c =
-    let at-loop = c .before in
-    let a = at-loop .before .args in
-    sym (at-loop .loop .inv .1
-    ∙ first-ended (isClusterAt (now (a .clusters)) (a .cluster)) (at-loop .loop .i) (a .n) (at-loop .loop .inv .0) (c .loop-test .left))
+returns-2 c = let inv = c .before .loop .inv in sym (inv .1 ∙ first-ended _ (c .before .loop .i) _ (inv .0) (c .loop-test .left))
 
 pub place-among-spec : {M : Type 1} → statement M
 place-among-spec =

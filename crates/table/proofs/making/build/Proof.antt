@@ -1,64 +1,73 @@
--- `table::making::build` meets its contract: each return is one case of building. Assumes nothing.
-use borrow.Author.Needs.{needs}
-use mathlib.Core.Path.{sym, _∙_}
+-- `table::making::build` meets its contract: a degree bound that isn't taken, a list that is refused, and else its rows worked out.
+-- Assumes nothing.
+use mathlib.Core.Path.{_≡_, ap, _∙_}
+use mathlib.Core.Bool.{Bool, false, _&&_, and-false}
 use denote.Ref.{now}
-use Rattle.table.proofs.Laws.Refused.{refusal-low, refusal-high, refusal-empty, refusal-long, refusal-cut, refusal-whole}
-use Rattle.table.proofs.Laws.Build.{build-of}
+use mir.Facts.{fits-lt-pow}
+use borrow.Author.Needs.{needs}
+use borrow.Author.Tests.{lt-leb}
+use lib.Dec.{T, leb}
+use Rattle.laws.specs.Limits.{narrow, degreeLow, degreeHigh, isDegree}
+use Rattle.laws.proofs.Width.{narrow-facts}
+use Rattle.lists.specs.Accepted.{Bytes}
+use Rattle.kept.specs.declared.table.Table.{Table}
+use Rattle.table.specs.Working.{againTable}
+use Rattle.table.proofs.Laws.Build.{degree-of, build-out, build-refused, build-workable, build-done}
 use Rattle.table.proofs.making.build.Statement.{statement}
 use Rattle.table.proofs.making.build.Tie as tie
 
+-- the degree bound is taken
+degree : (c : tie.Else2) → T (isDegree (c .before .before .before .args .degree))
+degree c = degree-of (c .before .if1 .left) (c .if2 .left)
+
+-- what is read of a slice of bytes is bytes
+bytes : (c : tie.After-read-list) → Bytes (now (c .before .before .before .before .args .list))
+bytes c i = fits-lt-pow (c .before .before .before .shared-slice-known .given i)
+
 returns : tie.Need-returns
 returns c =
-    let start = c .before .before .before in
-    let why = refusal-low (now (start .args .list)) (start .args .degree) (c .before .if1 .taken) in
-    c .refused .ensures ∙ sym (build-of _ _ why)
+    let s = c .before .before .before in
+    let low : isDegree (s .args .degree) ≡ false =
+    ap (λ (b : Bool). b && leb (s .args .degree) degreeHigh) (lt-leb degreeLow (s .args .degree) (c .before .if1 .taken)) in
+    c .refused .ensures ∙ build-out narrow (now (s .args .list)) (s .args .degree) low
 
 returns-2 : tie.Need-returns-2
 returns-2 c =
-    let low = c .before .before in
-    let start = low .before .before in
-    let why = refusal-high (now (start .args .list)) (start .args .degree) (low .if1 .left) (c .before .if2 .taken) in
-    c .refused2 .ensures ∙ sym (build-of _ _ why)
+    let s = c .before .before .before .before in
+    let high : isDegree (s .args .degree) ≡ false =
+    ap (λ (b : Bool). leb degreeLow (s .args .degree) && b) (lt-leb (s .args .degree) degreeHigh (c .before .if2 .taken))
+    ∙ and-false (leb degreeLow (s .args .degree)) in
+    c .refused2 .ensures ∙ build-out narrow (now (s .args .list)) (s .args .degree) high
+
+-- ---- the list is read, and its answer is known
+
+abbrev start : tie.After-read-list → tie.Start
+start c = c .before .before .before .before
 
 returns-3 : tie.Need-returns-3
 returns-3 c =
-    let high = c .before .before in
-    let low = high .before in
-    let start = low .before .before in
-    let why = refusal-empty (now (start .args .list)) (start .args .degree) (low .if1 .left) (high .if2 .left) (c .before .if3 .taken) in
-    c .refused3 .ensures ∙ sym (build-of _ _ why)
+    let at-answer = c .before .before in
+    let at-list = at-answer .before .before in
+    let s = start at-list in
+    c .refused3 .ensures
+    ∙ build-refused narrow (now (s .args .list)) (s .args .degree) (degree (at-list .before)) (at-list .read-list .ensures)
+    (at-answer .answer .given .1)
+
+again-requires : tie.Need-again-requires
+again-requires c κs =
+    let at-list = c .before .before .before in
+    let s = start at-list in
+    rw (c .unworked .ensures)
+    (build-workable narrow (now (s .args .list)) (s .args .degree) (degree (at-list .before)) (at-list .read-list .ensures) narrow-facts
+    (bytes at-list) (c .before .enum-told .given .1))
 
 returns-4 : tie.Need-returns-4
 returns-4 c =
-    let filled = c .before .before in
-    let high = filled .before in
-    let low = high .before in
-    let start = low .before .before in
-    let why = refusal-long (now (start .args .list)) (start .args .degree) (low .if1 .left) (high .if2 .left) (filled .if3 .left)
-    (c .before .if4 .taken) in
-    c .refused4 .ensures ∙ sym (build-of _ _ why)
-
-returns-5 : tie.Need-returns-5
-returns-5 c =
-    let short = c .before .before in
-    let filled = short .before in
-    let high = filled .before in
-    let low = high .before in
-    let start = low .before .before in
-    let why = refusal-cut (now (start .args .list)) (start .args .degree) (low .if1 .left) (high .if2 .left) (filled .if3 .left)
-    (short .if4 .left) (c .before .if5 .taken) in
-    c .refused5 .ensures ∙ sym (build-of _ _ why)
-
-returns-6 : tie.Need-returns-6
-returns-6 c =
-    let short = c .before .before in
-    let filled = short .before in
-    let high = filled .before in
-    let low = high .before in
-    let start = low .before .before in
-    let why = refusal-whole (now (start .args .list)) (start .args .degree) (low .if1 .left) (high .if2 .left) (filled .if3 .left)
-    (short .if4 .left) (c .before .if5 .left) in
-    c .made .ensures ∙ sym (build-of _ _ why)
+    let at-list = c .before .before .before .before in
+    let s = start at-list in
+    build-done narrow (now (s .args .list)) (s .args .degree) (degree (at-list .before)) (at-list .read-list .ensures) narrow-facts
+    (bytes at-list) (c .before .before .enum-told .given .1)
+    (c .again .ensures ∙ ap (λ (t : Table). againTable narrow t 0) (c .before .unworked .ensures))
 
 pub build-spec : {M : Type 1} → statement M
 build-spec =
@@ -69,10 +78,10 @@ build-spec =
     (λ c κs. search needs)
     returns-2
     (λ c κs. search needs)
+    (λ c. search needs)
+    (λ c κs. search needs)
+    (λ c. search needs)
+    (λ c κs. search needs)
+    again-requires
     returns-3
-    (λ c κs. search needs)
-    returns-4
-    (λ c κs. search needs)
-    returns-5
-    (λ c κs. search needs)
-    returns-6)
+    returns-4)

@@ -1,24 +1,23 @@
 -- `table::rescoring::rescore` meets its contract: each refusal in its order, and else the table with the new score, worked out again.
 -- Assumes nothing.
-use mathlib.Core.Path.{_≡_, sym, ap, _∙_}
+use mathlib.Core.Path.{_≡_, ap, _∙_}
 use mathlib.Core.Bool.{true}
 use Prim.Native.Nat.{ℕ, _≤_, _<_}
 use native.Mathlib.Omega.{arith}
 use borrow.Author.Needs.{needs}
-use borrow.Author.Tests.{not-true, not-false}
 use lib.IntN.{ℤ}
 use lib.ListN.{getD}
 use mir.Facts.{toZ-ofZ}
 use mir.Syntax.{w64}
 use mir.Val.{Fits}
 use Rattle.laws.specs.Limits.{narrow, wordValues}
-use Rattle.laws.proofs.Tests.{true-T}
+use Rattle.laws.proofs.Tests.{true-T, passed, failed}
 use Rattle.laws.proofs.Width.{narrow-facts}
+use Rattle.cluster.specs.Rule.{isScore}
 use Rattle.kept.specs.Fit.{isFit}
 use Rattle.kept.specs.Rows.{hasRow}
 use Rattle.kept.specs.Arrays.{Sized}
 use Rattle.kept.proofs.Laws.Fit.{isFit→}
-use Rattle.table.specs.Rescore.{isScore}
 use Rattle.table.proofs.Changing.Rescore.{rescore-unfit, rescore-no-row, rescore-bad-score, rescore-done}
 use Rattle.table.proofs.Changing.Scored.{row-missing, row-listed, row-found, score-workable, score-done}
 use Rattle.table.proofs.rescoring.rescore.Statement.{statement}
@@ -33,7 +32,7 @@ words : (s : tie.Start) (j : ℕ) → getD (s .args .given .«members_low») j 0
 words s j = let f : Fits w64 (getD (s .args .given .«members_low») j 0) = search needs in f .fits
 
 fit : (c : tie.Else1) → isFit narrow (c .before .before .args .given) ≡ true
-fit c = sym (c .before .is-fit .ensures) ∙ not-false _ (c .if1 .left)
+fit c = passed (c .before .is-fit .ensures) (c .if1 .left)
 
 capped : (c : tie.Else1) → c .before .before .args .given .rows ≤ 128
 capped c = isFit→ narrow narrow-facts (c .before .before .args .given) (true-T (fit c)) .capped
@@ -54,6 +53,12 @@ listed c =
 room : (c : tie.Else3) → c .before .before .before .before .place-of .result < 128
 room c = let at = c .before .before in omega (arith, at .if2 .left, capped (fits-at (at .before)))
 
+found : (c : tie.Else2)
+    → let s = start (c .before) in getD (s .args .given .clusters) (c .before .before .place-of .result) 0 ≡ s .args .cluster
+found c =
+    let s = start (c .before) in
+    row-found (s .args .given) (capped (fits-at (c .before))) (s .args .cluster) _ (c .before .before .place-of .ensures) (c .if2 .left)
+
 -- ---- the new score
 
 score : (c : tie.After-is-score)
@@ -67,54 +72,41 @@ score c =
 returns : tie.Need-returns
 returns c =
     let s = c .before .before in
-    rescore-unfit (s .args .given) (s .args .cluster) (s .args .weight) (s .args .state)
-    (sym (c .before .is-fit .ensures) ∙ not-true _ (c .if1 .taken))
+    rescore-unfit narrow (s .args .given) (s .args .cluster) (s .args .weight) (s .args .state)
+    (failed (c .before .is-fit .ensures) (c .if1 .taken))
 
 returns-2 : tie.Need-returns-2
 returns-2 c =
     let s = start (c .before) in
     let f = fits-at (c .before) in
-    rescore-no-row (s .args .given) (s .args .cluster) (s .args .weight) (s .args .state) (fit f)
+    rescore-no-row narrow (s .args .given) (s .args .cluster) (s .args .weight) (s .args .state) (fit f)
     (row-missing (s .args .given) (capped f) (s .args .cluster) _ (c .before .before .place-of .ensures) (c .if2 .taken))
 
 returns-3 : tie.Need-returns-3
 returns-3 c =
     let at = c .before .before in
     let s = start (at .before) in
-    rescore-bad-score (s .args .given) (s .args .cluster) (s .args .weight) (s .args .state) (fit (fits-at (at .before))) (listed at)
-    (sym (score (c .before)) ∙ not-true _ (c .if3 .taken))
-
-mul-weight : tie.Need-mul-weight
-mul-weight c = omega (arith, room c)
-
-element-set-from-weight : tie.Need-element-set-from-weight
-element-set-from-weight c = room c
-
-element-write-t : tie.Need-element-write-t
-element-write-t c = room c
+    rescore-bad-score narrow (s .args .given) (s .args .cluster) (s .args .weight) (s .args .state) (fit (fits-at (at .before))) (listed at)
+    (failed (score (c .before)) (c .if3 .taken))
 
 again-requires : tie.Need-again-requires
 again-requires c κs =
     let at = c .before .before in
     let s = start (at .before) in
-    let f = fits-at (at .before) in
-    let row = at .before .before .place-of in
-    let found = row-found (s .args .given) (capped f) (s .args .cluster) _ (row .ensures) (at .if2 .left) in
     rw (toZ-ofZ (s .fits .weight))
-    (score-workable (s .args .given) (s .args .cluster) (s .args .weight) (s .args .state) (sized s) (true-T (fit f))
-    (row .result) (at .if2 .left) found (true-T (sym (score (c .before)) ∙ not-false _ (c .if3 .left))) (λ j h. words s j))
+    (score-workable narrow narrow-facts (s .args .given) (s .args .cluster) (s .args .weight) (s .args .state) (sized s)
+    (true-T (fit (fits-at (at .before)))) (at .before .before .place-of .result) (at .if2 .left) (found at)
+    (true-T (passed (score (c .before)) (c .if3 .left))) (λ j h. words s j))
 
 returns-4 : tie.Need-returns-4
 returns-4 c =
     let at = c .before .before .before in
     let s = start (at .before) in
-    let f = fits-at (at .before) in
-    let row = at .before .before .place-of in
-    let found = row-found (s .args .given) (capped f) (s .args .cluster) _ (row .ensures) (at .if2 .left) in
-    rescore-done (s .args .given) (s .args .cluster) (s .args .weight) (s .args .state) (fit f) (listed at)
-    (sym (score (c .before .before)) ∙ not-false _ (c .before .if3 .left)) (c .again .result)
-    (score-done (s .args .given) (s .args .cluster) (s .args .weight) (s .args .state) (sized s) (true-T (fit f))
-    (row .result) (at .if2 .left) found _ (toZ-ofZ (s .fits .weight)) (c .again .result) (c .again .ensures))
+    let f = fit (fits-at (at .before)) in
+    rescore-done narrow (s .args .given) (s .args .cluster) (s .args .weight) (s .args .state) f (listed at)
+    (passed (score (c .before .before)) (c .before .if3 .left))
+    (score-done narrow narrow-facts (s .args .given) (s .args .cluster) (s .args .weight) (s .args .state) (sized s) (true-T f)
+    (at .before .before .place-of .result) (at .if2 .left) (found at) _ (toZ-ofZ (s .fits .weight)) (c .again .result) (c .again .ensures))
 
 pub rescore-spec : {M : Type 1} → statement M
 rescore-spec =
@@ -126,8 +118,8 @@ rescore-spec =
     returns-2
     (λ c κs. search needs)
     returns-3
-    mul-weight
-    element-set-from-weight
-    element-write-t
+    (λ c. omega (arith, room c))
+    room
+    room
     again-requires
     returns-4)

@@ -1,7 +1,8 @@
 -- `table::searching::last` meets its contract: the rows below `rest` are counted, and the next one is `rest` or no row is. Assumes nothing.
 use mathlib.Core.Path.{_∙_}
 use borrow.Author.Needs.{needs}
-use Rattle.table.specs.Searched.{Columns, columns}
+use Rattle.laws.proofs.Tests.{passed, failed}
+use Rattle.table.specs.Columns.{Columns, columns}
 use Rattle.table.proofs.Tuples.Readable.{LowWords, missing-is, other-is, unscored-is, found-is}
 use Rattle.table.proofs.searching.last.Statement.{statement}
 use Rattle.table.proofs.searching.last.Tie as tie
@@ -23,40 +24,39 @@ returns : tie.Need-returns
 returns c =
     let placed = c .before .before in
     let r = start placed .pre in
-    c .none .ensures
-    ∙ missing-is _ (given (start placed)) _ _ (r .0 .sound) _ (r .1 .0) _ (placed .place-below .ensures) (c .before .if1 .taken)
+    c .none .ensures ∙ missing-is (r .0 .sound) (r .1 .0) (placed .place-below .ensures) (c .before .if1 .taken)
 
 returns-2 : tie.Need-returns-2
 returns-2 c =
     let there = c .before .before .before in
     let placed = there .before in
     let r = start placed .pre in
-    c .none2 .ensures
-    ∙ other-is _ (given (start placed)) _ _ (r .0 .sound) _ (r .1 .0) _ (placed .place-below .ensures) (there .if1 .left)
-    (c .before .if2 .taken)
+    c .none2 .ensures ∙ other-is (r .0 .sound) (r .1 .0) (placed .place-below .ensures) (there .if1 .left) (c .before .if2 .taken)
 
 returns-3 : tie.Need-returns-3
 returns-3 c =
-    let equal = c .before .before .before in
+    let told = c .before .before in
+    let equal = told .before .before in
     let there = equal .before .before in
     let placed = there .before in
     let r = start placed .pre in
     c .none3 .ensures
-    ∙ unscored-is _ (given (start placed)) _ _ (r .0 .sound) _ (r .1 .0) _ (placed .place-below .ensures) (there .if1 .left)
-    (equal .if2 .left) (c .before .if3 .taken)
+    ∙ unscored-is (r .0 .sound) (r .1 .0) (placed .place-below .ensures) (there .if1 .left) (equal .if2 .left)
+    (failed (told .is-scored .ensures) (c .before .if3 .taken))
 
 returns-4 : tie.Need-returns-4
 returns-4 c =
-    let equal = c .before .before .before in
+    let told = c .before .before in
+    let equal = told .before .before in
     let there = equal .before .before in
     let placed = there .before in
     let r = start placed .pre in
     c .part .ensures
-    ∙ found-is _ (given (start placed)) _ _ (r .0 .sound) _ (r .1 .0) _ (placed .place-below .ensures) (there .if1 .left)
-    (words placed) (equal .if2 .left) (c .before .if3 .left)
+    ∙ found-is (r .0 .sound) (r .1 .0) (placed .place-below .ensures) (there .if1 .left) (words placed) (equal .if2 .left)
+    (passed (told .is-scored .ensures) (c .before .if3 .left))
 
 pub last-spec : {M : Type 1} → statement M
 last-spec =
     tie.close
-    (tie.spec (λ c κs. search needs) (λ c κs. search needs) returns (λ c. search needs) (λ c. search needs) (λ c κs. search needs) returns-2 (λ c. search needs)
-    (λ c κs. search needs) returns-3 (λ c κs. search needs) returns-4)
+    (tie.spec (λ c κs. search needs) (λ c κs. search needs) returns (λ c. search needs) (λ c. search needs) (λ c κs. search needs)
+    returns-2 (λ c. search needs) (λ c κs. search needs) (λ c κs. search needs) returns-3 (λ c κs. search needs) returns-4)

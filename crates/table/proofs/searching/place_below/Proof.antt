@@ -31,5 +31,5 @@ returns c = below-of-between _ _ _ _ _ (c .before .loop .inv) (c .loop-test .lef
 pub place-below-spec : {M : Type 1} → statement M
 place-below-spec =
     tie.close
-    (tie.spec Inv-loop μ-loop loop-holds (λ c. omega arith) (λ c. omega arith) (λ c. omega arith) (λ c. omega arith) (λ c. omega arith) (λ c. omega arith) loop-again (λ c. omega arith)
-    loop-again-2 returns)
+    (tie.spec Inv-loop μ-loop loop-holds (λ c. omega arith) (λ c. omega arith) (λ c. omega arith) (λ c. omega arith) (λ c. omega arith)
+    (λ c. omega arith) loop-again (λ c. omega arith) loop-again-2 returns)

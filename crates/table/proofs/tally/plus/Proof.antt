@@ -9,13 +9,13 @@ returns : tie.Need-returns
 returns c =
     let counted = c .before .before in
     let a = counted .before .before .before .args in
-    plusTally-first (a .limit) (a .a) (a .b) _ (counted .plus-counts .ensures) (sym (c .before .keeps-first .ensures) ∙ c .if1 .taken)
+    plusTally-first (a .limit) (a .a) (a .b) _ (counted .capped-sum .ensures) (sym (c .before .keeps-first .ensures) ∙ c .if1 .taken)
 
 returns-2 : tie.Need-returns-2
 returns-2 c =
     let counted = c .before .before in
     let a = counted .before .before .before .args in
-    plusTally-second (a .limit) (a .a) (a .b) _ (counted .plus-counts .ensures) (sym (c .before .keeps-first .ensures) ∙ c .if1 .left)
+    plusTally-second (a .limit) (a .a) (a .b) _ (counted .capped-sum .ensures) (sym (c .before .keeps-first .ensures) ∙ c .if1 .left)
 
 pub plus-spec : {M : Type 1} → statement M
 plus-spec = tie.close (tie.spec (λ c. search needs) (λ c κs. search needs) (λ c κs. search needs) returns returns-2)

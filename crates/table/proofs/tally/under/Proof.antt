@@ -7,13 +7,16 @@ use Rattle.table.proofs.tally.under.Tie as tie
 returns : tie.Need-returns
 returns c =
     let counted = c .before .before .before in
-    underTally-dead _ _ _ _ (c .none .result) (counted .times-counts .ensures) (c .none .ensures) (c .before .if1 .taken)
+    underTally-dead _ _ _ _ (c .none .result) (counted .capped-product .ensures) (c .none .ensures) (c .before .if1 .taken)
 
 returns-2 : tie.Need-returns-2
 returns-2 c =
     let lives = c .before .before .before .before .before in
     let counted = lives .before .before in
-    underTally-live _ _ _ _ _ (counted .times-counts .ensures) (c .before .before .before .before .joint .ensures) (lives .if1 .left)
+    underTally-live _ _ _ _ _ (counted .capped-product .ensures) (c .before .before .before .before .joint .ensures) (lives .if1 .left)
 
 pub under-spec : {M : Type 1} → statement M
-under-spec = tie.close (tie.spec (λ c κs. search needs) (λ c κs. search needs) returns (λ c κs. search needs) (λ c. search needs) (λ c. search needs) returns-2)
+under-spec =
+    tie.close
+    (tie.spec (λ c κs. search needs) (λ c κs. search needs) returns (λ c κs. search needs) (λ c. search needs) (λ c. search needs)
+    returns-2)

@@ -10,15 +10,17 @@ use lib.ListN.{getD}
 use mir.Facts.{toZ-ofZ}
 use mir.Syntax.{w32, w64}
 use mir.Val.{SFits}
-use Rattle.table.specs.Searched.{columnsOf}
-use Rattle.table.specs.Tally.{fieldsTally}
-use Rattle.table.specs.Working.{workedRow}
-use Rattle.table.proofs.Rows.AgainLoop.{Partly, partly-start, partly-skip, partly-store, partly-end, ready-row, weight-fits}
+use Rattle.laws.specs.Limits.{narrow}
+use Rattle.laws.proofs.Width.{narrow-facts}
+use Rattle.table.specs.Working.{workedTally}
+use Rattle.table.specs.Columns.{columnsOf}
+use Rattle.table.proofs.Rows.AgainRow.{Partly, ready-row, weight-at}
+use Rattle.table.proofs.Rows.AgainLoop.{partly-start, partly-skip, partly-store, partly-end}
 use Rattle.table.proofs.working.again.Statement.{statement}
 use Rattle.table.proofs.working.again.Tie as tie
 
 abbrev Inv-loop : tie.InvT-loop
-Inv-loop cluster n degree t₀ starts i₀ t i = Partly t₀ cluster t i
+Inv-loop cluster n degree t₀ starts i₀ t i = Partly narrow t₀ cluster t i
 
 abbrev μ-loop : tie.MeasureT-loop
 μ-loop cluster n degree t₀ starts i₀ t i = n - i
@@ -40,37 +42,21 @@ row c =
 room : (c : tie.In-loop Inv-loop μ-loop) → c .before .loop .i < 128
 room c = omega (arith, c .loop-test .taken, start (c .before) .pre .capped)
 
-narrow : (c : tie.In-loop Inv-loop μ-loop) → SFits w32 (getD (c .before .loop .t .weights) (c .before .loop .i) (pos 0))
-narrow c =
+weight-fits : (c : tie.In-loop Inv-loop μ-loop) → SFits w32 (getD (c .before .loop .t .weights) (c .before .loop .i) (pos 0))
+weight-fits c =
     let at-loop = c .before in
     let s = start at-loop in
-    weight-fits (s .args .given) (s .args .cluster) (s .pre) (at-loop .loop .t) (at-loop .loop .i) (at-loop .loop .inv)
-    (c .loop-test .taken)
+    weight-at narrow-facts (s .pre) (at-loop .loop .inv) (c .loop-test .taken)
+
+stored-room : (c : tie.After-struct-told Inv-loop μ-loop) → in-loop (row (c .before .before)) .before .loop .i < 128
+stored-room c = room (in-loop (row (c .before .before)))
 
 -- ---- needs
-
-put-starts-requires : tie.Need-put-starts-requires Inv-loop μ-loop
-put-starts-requires c κs = (refl, c .before .before .before .before .pre .rising)
 
 loop-holds : tie.Need-loop-holds Inv-loop μ-loop
 loop-holds c =
     let start = c .before .before .before .before .before in
-    partly-start (start .args .given) (start .args .cluster) (start .pre)
-
-mul-is-inside : tie.Need-mul-is-inside Inv-loop μ-loop
-mul-is-inside c = omega (arith, room c)
-
-element-copy-out-is-inside : tie.Need-element-copy-out-is-inside Inv-loop μ-loop
-element-copy-out-is-inside c = room c
-
-is-inside-requires : tie.Need-is-inside-requires Inv-loop μ-loop
-is-inside-requires c κs = tt
-
-mul-weight : tie.Need-mul-weight Inv-loop μ-loop
-mul-weight c = omega (arith, room (in-loop c))
-
-element-copy-out-weight : tie.Need-element-copy-out-weight Inv-loop μ-loop
-element-copy-out-weight c = room (in-loop c)
+    partly-start narrow-facts (start .pre)
 
 worked-requires : tie.Need-worked-requires Inv-loop μ-loop
 worked-requires c κs =
@@ -79,47 +65,8 @@ worked-requires c κs =
     let s = start at-loop in
     let t = at-loop .loop .t in
     let i = at-loop .loop .i in
-    rw (toZ-ofZ (narrow inside)) (ready-row (s .args .given) (s .args .cluster) (s .pre) t i (at-loop .loop .inv) _
+    rw (toZ-ofZ (weight-fits inside)) (ready-row narrow-facts (s .pre) (at-loop .loop .inv) _
     (inside .loop-test .taken) (at-loop .before .put-starts .ensures))
-
-mul-t : tie.Need-mul-t Inv-loop μ-loop
-mul-t c = omega (arith, room (in-loop (row (c .before .before))))
-
-element-write-t : tie.Need-element-write-t Inv-loop μ-loop
-element-write-t c = room (in-loop (row (c .before .before)))
-
-mul-t-2 : tie.Need-mul-t-2 Inv-loop μ-loop
-mul-t-2 c = omega (arith, room (in-loop (row (c .before .before))))
-
-element-write-t-2 : tie.Need-element-write-t-2 Inv-loop μ-loop
-element-write-t-2 c = room (in-loop (row (c .before .before)))
-
-element-write-t-3 : tie.Need-element-write-t-3 Inv-loop μ-loop
-element-write-t-3 c = room (in-loop (row (c .before .before)))
-
-mul-best : tie.Need-mul-best Inv-loop μ-loop
-mul-best c = omega (arith, room (in-loop (row (c .before .before))))
-
-element-set-from-best : tie.Need-element-set-from-best Inv-loop μ-loop
-element-set-from-best c = room (in-loop (row (c .before .before)))
-
-mul-t-3 : tie.Need-mul-t-3 Inv-loop μ-loop
-mul-t-3 c = omega (arith, room (in-loop (row (c .before .before))))
-
-element-write-t-4 : tie.Need-element-write-t-4 Inv-loop μ-loop
-element-write-t-4 c = room (in-loop (row (c .before .before)))
-
-mul-t-4 : tie.Need-mul-t-4 Inv-loop μ-loop
-mul-t-4 c = omega (arith, room (in-loop (row (c .before .before))))
-
-element-write-t-5 : tie.Need-element-write-t-5 Inv-loop μ-loop
-element-write-t-5 c = room (in-loop (row (c .before .before)))
-
-add-i : tie.Need-add-i Inv-loop μ-loop
-add-i c = omega (arith, room (c .before .before .before))
-
-loop-less : tie.Need-loop-less Inv-loop μ-loop
-loop-less c = let inside = c .before .before .before in omega (arith, inside .loop-test .taken)
 
 loop-again : tie.Need-loop-again Inv-loop μ-loop
 loop-again c =
@@ -131,21 +78,24 @@ loop-again c =
     let test = c .before .is-inside .ensures in
     ⊎-elim
     (λ w.
-    let best : SFits w64 (w .18 .result .best) = record { sfits = w .19 .given .1 .1 .1 .0 .1 } in
-    partly-store (s .args .given) (s .args .cluster) (s .pre) t i (at-loop .loop .inv) (w .18 .result) (inside .loop-test .taken)
+    let call = w .18 in
+    let stored = w .20 in
+    -- what is known of the result's fields, in the order of the struct: past tuples, count and mark, the best weight
+    let from-best = w .19 .given .1 .1 .1 in
+    let best-fits : SFits w64 (call .result .best) = record { sfits = from-best .0 .1 } in
+    partly-store narrow-facts (s .pre) (at-loop .loop .inv) (at-loop .before .put-starts .ensures) (inside .loop-test .taken)
     (sym test ∙ w .0 .taken)
-    (w .18 .ensures ∙ ap (λ (z : ℤ). fieldsTally (workedRow (columnsOf t) z i (s .args .given .degree))) (toZ-ofZ (narrow inside)))
-    _ (toZ-ofZ best) (c .if1 .t) (w .20))
+    (call .ensures ∙ ap (λ (z : ℤ). workedTally narrow (columnsOf t) z i (s .args .given .degree)) (toZ-ofZ (weight-fits inside)))
+    (toZ-ofZ best-fits) stored)
     (λ w.
-    partly-skip (s .args .given) (s .args .cluster) (s .pre) t (c .if1 .t) i (at-loop .loop .inv) (inside .loop-test .taken)
-    (sym test ∙ w .0 .left) (w .1))
+    partly-skip narrow-facts (s .pre) (at-loop .loop .inv) (inside .loop-test .taken) (sym test ∙ w .0 .left) (w .1))
     (c .if1 .came)
 
 returns : tie.Need-returns Inv-loop μ-loop
 returns c =
     let at-loop = c .before in
     let s = start at-loop in
-    partly-end (s .args .given) (s .args .cluster) (s .pre) (at-loop .loop .t) (at-loop .loop .i) (at-loop .loop .inv) (c .loop-test .left)
+    partly-end narrow-facts (s .pre) (at-loop .loop .inv) (c .loop-test .left)
 
 pub again-spec : {M : Type 1} → statement M
 again-spec =
@@ -153,27 +103,27 @@ again-spec =
     (tie.spec
     Inv-loop
     μ-loop
-    put-starts-requires
+    (λ c κs. (refl, c .before .before .before .before .pre .rising))
     loop-holds
-    mul-is-inside
-    element-copy-out-is-inside
-    is-inside-requires
-    mul-weight
-    element-copy-out-weight
+    (λ c. omega (arith, room c))
+    (λ c. room c)
+    (λ c κs. search needs)
+    (λ c. omega (arith, room (in-loop c)))
+    (λ c. room (in-loop c))
     (λ c. search needs)
     worked-requires
-    mul-t
-    element-write-t
-    mul-t-2
-    element-write-t-2
-    element-write-t-3
-    mul-best
-    element-set-from-best
-    mul-t-3
-    element-write-t-4
-    mul-t-4
-    element-write-t-5
-    add-i
-    loop-less
+    (λ c. omega (arith, stored-room c))
+    stored-room
+    (λ c. omega (arith, stored-room c))
+    stored-room
+    stored-room
+    (λ c. omega (arith, stored-room c))
+    stored-room
+    (λ c. omega (arith, stored-room c))
+    stored-room
+    (λ c. omega (arith, stored-room c))
+    stored-room
+    (λ c. omega (arith, room (c .before .before .before)))
+    (λ c. let inside = c .before .before .before in omega (arith, inside .loop-test .taken))
     loop-again
     returns)

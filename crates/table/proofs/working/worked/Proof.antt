@@ -1,15 +1,17 @@
 -- `table::working::worked` meets its contract: an unscored row and a one-taxon row end at once, and any other is the row over what the
 -- search of its tuples adds up. Assumes nothing.
-use mathlib.Core.Path.{sym, ap, _∙_}
+use mathlib.Core.Path.{_≡_, sym, ap, _∙_}
 use native.Mathlib.Omega.{arith}
 use borrow.Author.Needs.{needs}
 use lib.IntN.{ℤ}
 use mir.Facts.{toZ-ofZ}
 use mir.Syntax.{w32}
 use mir.Val.{SFits}
-use Rattle.table.specs.Searched.{Columns, columns}
+use Rattle.laws.specs.Limits.{narrow}
+use Rattle.laws.proofs.Tests.{passed, failed}
 use Rattle.table.specs.Tally.{ownTally}
-use Rattle.table.proofs.Rows.WorkedRow.{searchable, worked-unscored, worked-single, worked-searched, under-fits}
+use Rattle.table.specs.Columns.{Columns, columns}
+use Rattle.table.proofs.Rows.Ready.{searchable, under-fits, worked-unscored, worked-single, worked-searched}
 use Rattle.table.proofs.working.worked.Statement.{statement}
 use Rattle.table.proofs.working.worked.Tie as tie
 
@@ -23,61 +25,63 @@ columnsAt s =
     columns (s .args .clusters .now) (s .args .states .now) (s .args .counts .now) (s .args .marks .now) (s .args .bests .now)
     (s .args .lows .now) (s .args .highs .now)
 
-narrow : (s : tie.Start) → SFits w32 (s .args .weight)
-narrow s = search needs
+-- a scored row of two taxa or more, from where its own tally is at hand
+abbrev scored-row : tie.After-own2 → tie.Else1
+scored-row c = c .before .before .before .before .before
+
+weight-fits : (s : tie.Start) → SFits w32 (s .args .weight)
+weight-fits s = search needs
+
+-- the row itself, as the code has it: its weight by way of its bits
+own-is : (c : tie.After-own2)
+    → let s = start (scored-row c .before .before) in c .own2 .result ≡ ownTally 1 (s .args .weight) (s .args .i)
+own-is c =
+    let s = start (scored-row c .before .before) in
+    c .own2 .ensures ∙ ap (λ (z : ℤ). ownTally 1 z (s .args .i)) (toZ-ofZ (weight-fits s))
 
 -- ---- needs
 
 returns : tie.Need-returns
 returns c =
-    let s = start (c .before .before) in
+    let told = c .before .before in
+    let s = start (told .before) in
     c .none .ensures
-    ∙ worked-unscored (columnsAt s) (s .args .starts .now) (s .args .weight) (s .args .i) (s .args .degree) (s .pre) (c .before .if1 .taken)
+    ∙ worked-unscored narrow (columnsAt s) (s .args .weight) (s .args .i) (s .args .degree)
+    (failed (told .is-scored .ensures) (c .before .if1 .taken))
 
 returns-2 : tie.Need-returns-2
 returns-2 c =
     let single = c .before .before in
-    let scored = single .before .before in
-    let s = start (scored .before) in
+    let row = single .before .before in
+    let s = start (row .before .before) in
     c .own .ensures
-    ∙ ap (λ (z : ℤ). ownTally 0 z (s .args .i)) (toZ-ofZ (narrow s))
-    ∙ worked-single (columnsAt s) (s .args .starts .now) (s .args .weight) (s .args .i) (s .args .degree) (s .pre) (scored .if1 .left)
-    (sym (single .is-single .ensures) ∙ c .before .if2 .taken)
+    ∙ ap (λ (z : ℤ). ownTally 0 z (s .args .i)) (toZ-ofZ (weight-fits s))
+    ∙ worked-single narrow (columnsAt s) (s .args .weight) (s .args .i) (s .args .degree)
+    (passed (row .before .is-scored .ensures) (row .if1 .left)) (sym (single .is-single .ensures) ∙ c .before .if2 .taken)
 
 search-requires : tie.Need-search-requires
 search-requires c κs =
-    let scored = c .before .before .before in
-    let s = start (scored .before) in (
-      searchable (columnsAt s) (s .args .starts .now) (s .args .weight) (s .args .i) (s .args .degree) (s .pre),
-      (omega (arith, s .pre .low), omega (arith, s .pre .high)),
-    )
-
-under-requires : tie.Need-under-requires
-under-requires c κs =
-    let found = c .before in
-    let scored = found .before .before .before .before in
-    let s = start (scored .before) in
-    under-fits (columnsAt s) (s .args .starts .now) (s .args .weight) (s .args .i) (s .args .degree) (s .pre) _ _
-    (c .own2 .ensures ∙ ap (λ (z : ℤ). ownTally 1 z (s .args .i)) (toZ-ofZ (narrow s))) (found .search .ensures)
+    let row = c .before .before .before in
+    let s = start (row .before .before) in
+    (searchable (s .pre), (omega (arith, s .pre .low), omega (arith, s .pre .high)))
 
 returns-3 : tie.Need-returns-3
 returns-3 c =
-    let own = c .before in
-    let found = own .before in
-    let many = found .before in
-    let single = many .before in
-    let scored = single .before .before in
-    let s = start (scored .before) in
-    worked-searched (columnsAt s) (s .args .starts .now) (s .args .weight) (s .args .i) (s .args .degree) (s .pre) _ _ _ (scored .if1 .left)
-    (sym (single .is-single .ensures) ∙ many .if2 .left)
-    (own .own2 .ensures ∙ ap (λ (z : ℤ). ownTally 1 z (s .args .i)) (toZ-ofZ (narrow s)))
-    (found .search .ensures) (c .under .ensures)
+    let found = c .before .before in
+    let single = found .before .before in
+    let row = scored-row (c .before) in
+    let s = start (row .before .before) in
+    c .under .ensures
+    ∙ worked-searched narrow (columnsAt s) (s .args .weight) (s .args .i) (s .args .degree)
+    (passed (row .before .is-scored .ensures) (row .if1 .left)) (sym (single .is-single .ensures) ∙ found .before .if2 .left)
+    (own-is (c .before)) (found .search .ensures)
 
 pub worked-spec : {M : Type 1} → statement M
 worked-spec =
     tie.close
     (tie.spec
     (λ c. search needs)
+    (λ c κs. search needs)
     (λ c κs. search needs)
     returns
     (λ c. search needs)
@@ -88,5 +92,5 @@ worked-spec =
     (λ c. search needs)
     search-requires
     (λ c κs. search needs)
-    under-requires
+    (λ c κs. under-fits (start (scored-row c .before .before) .pre) (own-is c) (c .before .search .ensures))
     returns-3)
