@@ -12,8 +12,8 @@ abbrev μ-loop : tie.MeasureT-loop
 loop-holds : tie.Need-loop-holds Inv-loop μ-loop
 loop-holds c = tt
 
-is-next-answered-requires : tie.Need-is-next-answered-requires Inv-loop μ-loop
-is-next-answered-requires c κs = tt
+answer-next-requires : tie.Need-answer-next-requires Inv-loop μ-loop
+answer-next-requires c κs = tt
 
 sub-turns : tie.Need-sub-turns Inv-loop μ-loop
 sub-turns c = omega arith
@@ -37,7 +37,7 @@ main-spec =
     Inv-loop
     μ-loop
     loop-holds
-    is-next-answered-requires
+    answer-next-requires
     sub-turns
     loop-less
     loop-again
