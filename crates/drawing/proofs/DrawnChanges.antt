@@ -10,8 +10,9 @@ use mathlib.Core.Option.{none, some}
 use mathlib.Core.List.{List, []}
 use Prim.Native.Nat.{ℕ}
 use lib.Dec.{T}
-use Rattle.laws.specs.Limits.{Width, WidthFacts, isDegree}
+use Rattle.laws.specs.Limits.{Width, isDegree}
 use Rattle.laws.specs.Row.{Row}
+use Rattle.laws.specs.Widths.{WidthFacts}
 use Rattle.cluster.specs.declared.refusal.Refusal.the-variants.{NoTree}
 use Rattle.cluster.specs.Outcome.{Outcome}
 use Rattle.cluster.specs.Reasons.{firstReason}

@@ -17,8 +17,9 @@ use mathlib.Core.List.{List, [], _∷_, _++_, cons-ne-nil}
 use Prim.Native.Nat.{ℕ, _≤_}
 use native.Mathlib.Omega.{arith}
 use lib.ListN.{length, drop}
-use Rattle.laws.specs.Limits.{Width, WidthFacts}
+use Rattle.laws.specs.Limits.{Width}
 use Rattle.laws.specs.Row.{Row}
+use Rattle.laws.specs.Widths.{WidthFacts}
 use Rattle.laws.proofs.Tests.{T-true, T-false}
 use Rattle.cluster.specs.declared.refusal.Answer.the-variants.{Done, Refused}
 use Rattle.cluster.specs.declared.refusal.Refusal.{Refusal}

@@ -21,9 +21,10 @@ use native.Mathlib.Omega.{arith}
 use lib.Dec.{T, ltb, ltb→lt, lt→ltb}
 use lib.ListN.{length, length-map}
 use Rattle.laws.specs.Cluster.{unionOf}
-use Rattle.laws.specs.Limits.{Width, WidthFacts, rowCap}
+use Rattle.laws.specs.Limits.{Width, rowCap}
 use Rattle.laws.specs.Lists.{elem, downTo}
 use Rattle.laws.specs.Row.{Row}
+use Rattle.laws.specs.Widths.{WidthFacts}
 use Rattle.laws.proofs.Appended.{map-through}
 use Rattle.laws.proofs.Down.{down-mem, down-map}
 use Rattle.laws.proofs.Keep.{elem→, →elem, nil-of-none}

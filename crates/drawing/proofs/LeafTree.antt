@@ -18,10 +18,11 @@ use Prim.Native.Nat.{ℕ, _<_}
 use lib.Dec.{T}
 use lib.IntN.{ℤ}
 use lib.ListN.{getD}
-use Rattle.laws.specs.Limits.{Width, WidthFacts}
+use Rattle.laws.specs.Limits.{Width}
 use Rattle.laws.specs.Lists.{keep, elem, sublists, Falling}
 use Rattle.laws.specs.State.{scored}
 use Rattle.laws.specs.Row.{Row}
+use Rattle.laws.specs.Widths.{WidthFacts}
 use Rattle.laws.proofs.Down.{down-mem, down-falling}
 use Rattle.laws.proofs.Falling.{in-turn-keep, falling-once, sublist-is-elem}
 use Rattle.laws.proofs.Once.{map-inj}

@@ -20,8 +20,9 @@ use Rattle.laws.proofs.Keep.{mem-of-keep}
 use Rattle.trees.specs.Rows.{clustersOf, Entry, cl, sc, RowFacts}
 use Rattle.trees.specs.Result.{Result, blank}
 use Rattle.trees.specs.Built.{builtTable}
-use Rattle.trees.specs.Rescored.{Beneath, keyOf, isLive, firstKey, joined, alone, workedOut}
+use Rattle.trees.specs.Rescored.{joined, alone, workedOut}
 use Rattle.trees.specs.Kind.{workedFrom}
+use Rattle.trees.specs.Beneath.{Beneath, keyOf, isLive, firstKey}
 use Rattle.trees.proofs.Formula.Rows.{facts-tail, above-rest, table-row}
 use Rattle.trees.proofs.Searching.Covers.{chosen, chosen-is, tuples-are-covers}
 use Rattle.trees.proofs.Built.{worked-is-built}

@@ -2,7 +2,7 @@
 --     listedIn, resultIn, entryIn    the fields of a row: what was listed, what was worked out, both
 --     everyBit m k p                 of the first k bits of m, each that is set passes p
 --     isMarkFit cs n c b k           row b + k is one of the first n, and its cluster lies inside c
---     Placed cs n i r                r is row i of n ascending ones
+--     AtRow cs n i r                 r is row i of n ascending ones
 -- Assumes nothing.
 use mathlib.Core.Path.{_≡_}
 use mathlib.Core.Bool.{Bool, not, _&&_, _||_}
@@ -44,7 +44,7 @@ abbrev pub isMarkFit : List ℕ → ℕ → ℕ → ℕ → ℕ → Bool
 isMarkFit cs n c b k = ltb (b + k) n && inside (getD cs (b + k) 0) c
 
 -- ---- what the tests may count on
-pub record Placed (cs : List ℕ) (n i : ℕ) (r : Fields) : Type 0 where
+pub record AtRow (cs : List ℕ) (n i : ℕ) (r : Fields) : Type 0 where
   pub rising : Rising cs n
   pub capped : n ≤ rowCap
   pub place : i < n

@@ -25,7 +25,7 @@ ghost use Rattle.kept.specs.View.{clustersDown};
 ghost use Rattle.cluster.specs.Rule.{keepsRules};
 ghost use Rattle.kept.specs.Fit.{fitEntry, isRising, isRowRight, hasRightRows, isFit};
 ghost use Rattle.kept.specs.Arrays.{Rising};
-ghost use Rattle.kept.specs.Fields.{listedIn, entryIn, Placed};
+ghost use Rattle.kept.specs.Fields.{listedIn, entryIn, AtRow};
 
 // Whether cluster, weight and state keep the record rules, and the cluster is within the width.
 fn is_record(row: Fields) -> bool
@@ -40,7 +40,7 @@ fn is_record(row: Fields) -> bool
 
 // Whether row `i` of the first `n` is fit.
 fn is_row_fit(clusters: &[u64], n: usize, i: usize, row: Fields) -> bool
-    requires { ⌜ Placed (now clusters) n i row ⌝ }
+    requires { ⌜ AtRow (now clusters) n i row ⌝ }
     ensures { λ b. ⌜ b ≡ fitEntry narrow (clustersDown (now (clusters .entry)) n) (entryIn row) ⌝ }
 {
     if !is_record(row) {
@@ -69,7 +69,7 @@ fn is_rising(clusters: &[u64], n: usize) -> bool
 
 // Whether row `i` is fit where it is one of the first `n`, and all zero where it is past them.
 fn is_row_right(clusters: &[u64], n: usize, i: usize, row: Fields) -> bool
-    requires { ⌜ (i < n → Placed (now clusters) n i row) ⌝ }
+    requires { ⌜ (i < n → AtRow (now clusters) n i row) ⌝ }
     ensures { λ b. ⌜ b ≡ isRowRight narrow (clustersDown (now (clusters .entry)) n) n i (entryIn row) ⌝ }
 {
     if n <= i {

@@ -19,7 +19,7 @@ ghost use Prim.Native.Nat.{_≤_, _<_};
 ghost use Rattle.laws.specs.Limits.{narrow};
 ghost use Rattle.kept.specs.View.{clustersDown};
 ghost use Rattle.kept.specs.Results.{isLength, isMark, isRanged, isLight, isMatched};
-ghost use Rattle.kept.specs.Fields.{listedIn, resultIn, Placed};
+ghost use Rattle.kept.specs.Fields.{listedIn, resultIn, AtRow};
 
 // Whether the row length is in range: that of one taxon is zero.
 fn is_length(row: Fields) -> bool
@@ -80,7 +80,7 @@ fn is_light(best: i64, taxa: u32) -> bool
 
 // Whether count, marks and best weight of row `i` go together. A row that is marked past the `n` rows is found by the walk.
 pub(crate) fn is_matched(clusters: &[u64], n: usize, i: usize, row: Fields) -> bool
-    requires { ⌜ Placed (now clusters) n i row ⌝ }
+    requires { ⌜ AtRow (now clusters) n i row ⌝ }
     requires { ⌜ 0 < row .cluster ⌝ }
     ensures { λ b. ⌜ b ≡ isMatched (clustersDown (now (clusters .entry)) n) (listedIn row) (resultIn row) ⌝ }
 {

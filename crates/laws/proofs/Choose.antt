@@ -16,8 +16,8 @@ use native.Mathlib.Omega.{arith}
 use lib.Arith.{le-zero}
 use lib.Dec.{T, eqb, eqb·zero-suc, eqb·suc-zero, eqb·suc-suc}
 use lib.ListN.{length, length-append, length-map}
-use Rattle.laws.specs.Limits.{choose, few}
 use Rattle.laws.specs.Lists.{keep, every, sublists}
+use Rattle.laws.specs.Widths.{choose, few}
 use Rattle.laws.proofs.Tests.{T-and, and-T, bool-ext, neq→}
 use Rattle.laws.proofs.Keep.{keep-none, keep-ext, every→, →every}
 use Rattle.laws.proofs.KeepCount.{length-keep-split, length-keep-and-le, length-keep-lt}

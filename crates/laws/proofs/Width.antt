@@ -5,7 +5,8 @@
 use mathlib.Core.Path.{refl, subst}
 use Prim.Native.Nat.{ℕ, _-_, _≤_}
 use native.Mathlib.Omega.{arith}
-use Rattle.laws.specs.Limits.{narrow, degreeHigh, few, WidthFacts}
+use Rattle.laws.specs.Limits.{narrow, degreeHigh}
+use Rattle.laws.specs.Widths.{few, WidthFacts}
 use Rattle.laws.proofs.Choose.{few-mono, fewFour, few-four}
 
 pub few-high : (d n N : ℕ) → d ≤ degreeHigh → n ≤ N → few n (d - 1) ≤ fewFour N

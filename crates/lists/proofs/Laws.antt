@@ -1,5 +1,3 @@
--- one row put among others, and rows in order
-pub mod Insert
 -- rows given by their positions, put in order
 pub mod Rows
 -- bytes stay bytes

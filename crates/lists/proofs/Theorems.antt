@@ -21,9 +21,10 @@ use native.Mathlib.Nat.{div-add-mod, mul-zero, mul-comm, le-of-mul-le-mul-left}
 use native.Mathlib.Omega.{arith}
 use lib.Dec.{T, eqb, ltb, eqb→eq}
 use lib.ListN.{length}
-use Rattle.laws.specs.Limits.{Width, WidthFacts}
+use Rattle.laws.specs.Limits.{Width}
 use Rattle.laws.specs.Lists.{Falling}
 use Rattle.laws.specs.Row.{Row}
+use Rattle.laws.specs.Widths.{WidthFacts}
 use Rattle.laws.proofs.Tests.{T-of-not}
 use Rattle.cluster.specs.declared.refusal.Answer.{Answer}
 use Rattle.cluster.specs.declared.refusal.Answer.the-variants.{Done, Refused}
@@ -40,12 +41,11 @@ use Rattle.trees.specs.Rows.{clustersOf, RowFacts}
 use Rattle.lists.specs.declared.listing.Listing.{Listing}
 use Rattle.lists.specs.Records.{recordsIn, listedAt, rowsOf}
 use Rattle.lists.specs.Listing.{Listed, listed, listingOf, listReasons, readList}
-use Rattle.lists.specs.Accepted.{Bytes, Accepted, Holds}
-use Rattle.lists.proofs.Laws.Insert.{falling-only}
+use Rattle.lists.specs.Accepted.{Bytes, Accepted, RecordsAmong}
 use Rattle.lists.proofs.Laws.Listing.{readList-is, ended-by}
 use Rattle.lists.proofs.Laws.Reasons.{empty-iff, long-iff, cut-iff, kept-iff, once-iff}
 use Rattle.lists.proofs.Laws.Records.{new-iff, row-iff, row-rules, row-facts}
-use Rattle.lists.proofs.Laws.Rows.{rows-length, rows-fall}
+use Rattle.lists.proofs.Laws.Rows.{rows-length, rows-fall, falling-only}
 
 module _ (W : Width) (l : List ℕ) where
   -- ---- which lists are taken
@@ -137,8 +137,8 @@ module _ (W : Width) (l : List ℕ) where
 
 -- ---- the order of records plays no part
 
-module _ (W : Width) (l m : List ℕ) (a : Accepted W l) (b : Accepted W m) (there : Holds W l m) (back : Holds W m l) where
-  moved : (x y : List ℕ) → Holds W x y → (r : Row) → Mem r (rowsOf W x) → Mem r (rowsOf W y)
+module _ (W : Width) (l m : List ℕ) (a : Accepted W l) (b : Accepted W m) (there : RecordsAmong W l m) (back : RecordsAmong W m l) where
+  moved : (x y : List ℕ) → RecordsAmong W x y → (r : Row) → Mem r (rowsOf W x) → Mem r (rowsOf W y)
   moved x y h r k =
       let q = row-iff W x r .0 k in
       let p = h (q .0) (q .1) in
@@ -148,7 +148,7 @@ module _ (W : Width) (l m : List ℕ) (a : Accepted W l) (b : Accepted W m) (the
   falls x k = rows-fall (listedAt W x) (recordsIn W x) (λ i h. new-iff W x i .1 (k .once i h))
 
   pub rows-of-records : rowsOf W l ≡ rowsOf W m
-  rows-of-records = falling-only (rowsOf W l) (rowsOf W m) (falls l a) (falls m b) (moved l m there, moved m l back)
+  rows-of-records = falling-only (rowsOf W l) (rowsOf W m) (falls l a) (falls m b) (moved l m there) (moved m l back)
 
   pub read-of-records : readList W l ≡ readList W m
   read-of-records =

@@ -6,7 +6,7 @@
 --     Accepted W l            a list that is taken: whole records, not none and not too many; every record keeps the rules, and none
 --                             repeats an earlier one
 --     HasCluster W l c        c is the cluster of a record
---     Holds W l m             every record of l is one of m
+--     RecordsAmong W l m      every record of l is one of m
 --     bytesOfRows W rs        the bytes of rows, one after the other, the smallest cluster first
 -- Assumes nothing.
 use mathlib.Core.Path.{_≡_}
@@ -53,8 +53,8 @@ module _ (W : Width) (l : List ℕ) where
   abbrev pub HasCluster : ℕ → Type 0
   HasCluster c = (i : ℕ) × (i < recordsIn W l) × (c ≡ listedAt W l i .cluster)
 
-  abbrev pub Holds : List ℕ → Type 0
-  Holds m = (i : ℕ) → i < recordsIn W l → (j : ℕ) × (j < recordsIn W m) × (listedAt W l i ≡ listedAt W m j)
+  abbrev pub RecordsAmong : List ℕ → Type 0
+  RecordsAmong m = (i : ℕ) → i < recordsIn W l → (j : ℕ) × (j < recordsIn W m) × (listedAt W l i ≡ listedAt W m j)
 
 -- ---- rows written
 abbrev pub bytesOfRows : Width → List Row → List ℕ

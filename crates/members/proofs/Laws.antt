@@ -9,7 +9,9 @@ pub mod Marked
 pub mod Weighed
 -- the members gathered in an array
 pub mod Gathered
--- which clusters the members of a row are
+-- which clusters the members of the leaf set's row are
 pub mod Members
+-- the members of marks that tell a test
+pub mod Tells
 -- what is drawn of a table
 pub mod Draw

@@ -2,16 +2,14 @@
 -- `proofs/Laws/Draw.antt`.
 --     leafRow t            the row of the leaf set: the number of rows where it has none
 --     hasTree t            the leaf set has a row, and its count isn't zero
---     leafMarks t          the marks of that row
---     markedRows t         the rows marked in it, the last first
+--     leafMarks t, markedRows t     the marks of that row, and the rows marked in it, the last first
 --     membersOf t          their clusters, ascending
 --     areScored t          each of them is scored
---     weighsBest t         their weights add up to the row's best: neither is less than the other
+--     weighsBest t         their weights add up to the row's best
 --     isDrawable W t       both, and they are a tree on the leaf set
 --     drawReasons W t      why nothing is drawn: 8 (fitness), 7, 8 (marks) in that order
 --     DrawnMembers         the leaf set's row, its members ascending in an array, zero past them, and how many they are
---     noMembers            nothing drawn: all zero
---     drawnMembers t       the members of the leaf set's row so
+--     noMembers, drawnMembers t     nothing drawn, all zero; the members of the leaf set's row
 --     drawnTree W t        what is drawn; a success tells nothing
 --     drawnOf r            the code's value as an outcome
 -- Assumes nothing.
@@ -19,22 +17,19 @@ use mathlib.Core.Bool.{Bool, not, _&&_}
 use mathlib.Core.List.{List, [], _∷_}
 use Prim.Native.Nat.{ℕ}
 use lib.Dec.{eqb, ltb}
-use lib.IntN.{ℤ}
 use lib.ListN.{length}
-use lib.Signed.{ltZ}
 use Rattle.laws.specs.Limits.{Width}
-use Rattle.cluster.specs.declared.refusal.Refusal.the-variants.{NoTree, Unfit}
 use Rattle.trees.specs.Tree.{isTree}
+use Rattle.cluster.specs.declared.refusal.Refusal.the-variants.{NoTree, Unfit}
+use Rattle.cluster.specs.Outcome.{Outcome, outcomeOf, ended}
+use Rattle.cluster.specs.Reasons.{Reason, when, firstReason}
 use Rattle.kept.specs.declared.table.Table.{Table}
 use Rattle.kept.specs.View.{resultAt}
 use Rattle.kept.specs.Fit.{isFit}
 use Rattle.kept.specs.Rows.{shownRows, placeOf, leafSet}
 use Rattle.members.specs.declared.draw.Drawn.{Drawn}
-use Rattle.members.specs.Marked.{markedTo, membersTo, membersIn, scoredTo, weightTo}
-use Rattle.cluster.specs.Outcome.{Outcome, outcomeOf, ended}
-use Rattle.cluster.specs.Reasons.{Reason, when, firstReason}
+use Rattle.members.specs.Marked.{markedTo, membersTo, membersIn, scoredTo, weightTo, isSame}
 
--- ---- the members of the leaf set's row
 abbrev pub leafRow : Table → ℕ
 leafRow t = placeOf t (leafSet t)
 
@@ -50,12 +45,8 @@ markedRows t = markedTo (leafMarks t) (shownRows t)
 abbrev pub membersOf : Table → List ℕ
 membersOf t = membersTo (t .clusters) (leafMarks t) (shownRows t)
 
--- ---- whether they may be drawn
 abbrev pub areScored : Table → Bool
 areScored t = scoredTo (t .states) (leafMarks t) (shownRows t)
-
-abbrev pub isSame : ℤ → ℤ → Bool
-isSame a b = not (ltZ a b) && not (ltZ b a)
 
 abbrev pub weighsBest : Table → Bool
 weighsBest t = isSame (weightTo (t .weights) (leafMarks t) (shownRows t)) (resultAt t (leafRow t) .best)
@@ -66,7 +57,6 @@ isDrawable W t = areScored t && weighsBest t && isTree (W .taxa) (t .degree) (le
 abbrev pub drawReasons : Width → Table → List Reason
 drawReasons W t = when (not (isFit W t)) Unfit ∷ when (not (hasTree t)) NoTree ∷ when (not (isDrawable W t)) Unfit ∷ []
 
--- ---- what is drawn
 pub record DrawnMembers : Type 0 where
   pub row : ℕ
   pub clusters : List ℕ

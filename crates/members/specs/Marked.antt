@@ -6,12 +6,14 @@
 --     scoredTo ss m n      each of them is scored
 --     total zs             numbers added up
 --     weightTo ws m n      their weights added up
+--     isSame a b           two weights are the same: neither is less than the other
 -- Assumes nothing.
-use mathlib.Core.Bool.{Bool}
+use mathlib.Core.Bool.{Bool, not, _&&_}
 use mathlib.Core.List.{List, [], _∷_, map, reverse}
 use Prim.Native.Nat.{ℕ}
 use lib.IntN.{ℤ, pos, _+ℤ_}
 use lib.ListN.{getD}
+use lib.Signed.{ltZ}
 use Rattle.laws.specs.Column.{column}
 use Rattle.laws.specs.Lists.{keep, every, places}
 use Rattle.laws.specs.State.{scored}
@@ -35,3 +37,6 @@ total (z ∷ zs) = z +ℤ total zs
 
 abbrev pub weightTo : List ℤ → ℕ → ℕ → ℤ
 weightTo ws m n = total (map (λ (i : ℕ). getD ws i (pos 0)) (markedTo m n))
+
+abbrev pub isSame : ℤ → ℤ → Bool
+isSame a b = not (ltZ a b) && not (ltZ b a)

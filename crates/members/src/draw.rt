@@ -3,9 +3,7 @@
 //     not_drawn        nothing is
 //     drawn_members    the members of the leaf set's row, if its marks are a tree of its best weight
 //     drawn_tree       what is drawn of a table
-use crate::marks::are_scored;
 use crate::marks::members_of;
-use crate::marks::weight_of;
 use crate::nesting::is_tree;
 use cluster::Answer;
 use cluster::Refusal;
@@ -47,14 +45,15 @@ fn drawn_members(t: Table, top: u64, row: usize) -> Drawn
 {
     let low = t.members_low[row];
     let high = t.members_high[row];
-    if !are_scored(&t.states, low, high, t.rows) {
+    let members = members_of(&t.clusters, &t.weights, &t.states, low, high, t.rows);
+    if !members.scored {
         return not_drawn(Refusal::Unfit);
     }
+    let weight = members.weight;
     let best = t.bests[row];
-    if weight_of(&t.weights, low, high, t.rows) != best {
+    if weight != best {
         return not_drawn(Refusal::Unfit);
     }
-    let members = members_of(&t.clusters, low, high, t.rows);
     let clusters = members.clusters;
     let size = members.size;
     if !is_tree(&clusters[..size], top, t.degree) {

@@ -19,8 +19,9 @@ use lib.Dec.{T, ltb}
 use lib.ListN.{length}
 use lib.Pow.{pow-mono}
 use Rattle.laws.specs.Cluster.{inside, size}
-use Rattle.laws.specs.Limits.{Width, WidthFacts}
+use Rattle.laws.specs.Limits.{Width}
 use Rattle.laws.specs.Lists.{keep, Once, Same}
+use Rattle.laws.specs.Widths.{WidthFacts}
 use Rattle.laws.proofs.Keep.{mem-keep, mem-of-keep, elem→, →elem}
 use Rattle.laws.proofs.Once.{once-keep}
 use Rattle.laws.proofs.Digits.{has-lt}

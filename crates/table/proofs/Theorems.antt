@@ -1,6 +1,6 @@
 -- What document 01 demands of tables, each under one name, over any width. Demand 2, what a row of a built table holds, stands in the
--- definition of a build (`specs/Build.antt`) and in the crate `trees` (`proofs/Theorems.antt`). Which lists are taken, in the paper's words,
--- and that the rows of a list are its records: the crate `lists` (`proofs/Theorems.antt`).
+-- definition of a build (`specs/Build.antt`) and in the crate `trees` (`proofs/Theorems.antt`). Which lists are taken, in the paper's
+-- words, and that the rows of a list are its records: the crate `lists` (`proofs/Theorems.antt`).
 --   demand 1, which lists are taken
 --     build-accepts-iff                             a build succeeds exactly for the accepted lists and the degree bounds 3 to 5
 --     build-refuses-iff                             and gives a refusal exactly when it is the first that applies
@@ -29,11 +29,10 @@ use mathlib.Core.List.{List, [], _∷_, map}
 use Prim.Native.Nat.{ℕ}
 use lib.Dec.{T, T-not}
 use lib.IntN.{ℤ}
-use Rattle.laws.specs.Limits.{Width, WidthFacts, isDegree}
-use Rattle.laws.specs.Lists.{elem, downTo}
+use Rattle.laws.specs.Limits.{Width, isDegree}
+use Rattle.laws.specs.Lists.{elem}
 use Rattle.laws.specs.Row.{Row}
-use Rattle.laws.proofs.Down.{mem-down, down-mem}
-use Rattle.laws.proofs.Keep.{elem→, →elem}
+use Rattle.laws.specs.Widths.{WidthFacts}
 use Rattle.laws.proofs.Tests.{T-true, true-T, T-of-not}
 use Rattle.cluster.specs.declared.refusal.Answer.{Answer}
 use Rattle.cluster.specs.declared.refusal.Answer.the-variants.{Done, Refused}
@@ -44,9 +43,9 @@ use Rattle.cluster.specs.Refusal.{sentOf}
 use Rattle.cluster.specs.Rule.{isScore}
 use Rattle.cluster.proofs.Laws.Outcome.{outcome-only, accepts-iff, refuses-iff}
 use Rattle.cluster.proofs.Laws.Reasons.{none-iff}
-use Rattle.lists.specs.Accepted.{Bytes, Accepted, HasCluster, Holds}
-use Rattle.lists.specs.Records.{recordsIn, listedAt, rowsOf}
-use Rattle.lists.proofs.Laws.Rows.{elem-rows}
+use Rattle.lists.specs.Accepted.{Bytes, Accepted, HasCluster, RecordsAmong}
+use Rattle.lists.specs.Records.{rowsOf}
+use Rattle.lists.proofs.Laws.Records.{cluster-iff}
 use Rattle.lists.proofs.Theorems.{accepted-iff, accepted-facts, rows-of-records}
 use Rattle.trees.specs.Rows.{Entry, clustersOf, cl}
 use Rattle.trees.specs.Result.{Result}
@@ -104,7 +103,7 @@ module _ (W : Width) (l : List ℕ) (d : ℕ) where
       rw (built-table degree a) (built-fit W facts d (rowsOf W l) (buildable facts degree byte a))
 
 -- the order of records plays no part
-pub build-of-records : (W : Width) (l m : List ℕ) (d : ℕ) → T (isDegree d) → Accepted W l → Accepted W m → Holds W l m → Holds W m l
+pub build-of-records : (W : Width) (l m : List ℕ) (d : ℕ) → T (isDegree d) → Accepted W l → Accepted W m → RecordsAmong W l m → RecordsAmong W m l
     → buildTable W l d ≡ buildTable W m d
 build-of-records W l m d degree a b there back =
     build-done W l d degree a
@@ -123,27 +122,12 @@ module _ {W : Width} (facts : WidthFacts W) {l : List ℕ} (d : ℕ) (degree : T
   clusters-are : map cl (builtTable W d rows) ≡ clustersOf rows
   clusters-are = clusters-of-rows (λ (r : Row). builtResult W d rows r) rows
 
-  -- the clusters of the records
-  abbrev clusterAt : ℕ → ℕ
-  clusterAt i = listedAt W l i .cluster
-
-  has-row-is : (c : ℕ) → hasRow built c ≡ elem c (downTo clusterAt (recordsIn W l))
-  has-row-is c =
-      ap (λ (t : Table). hasRow t c) (built-table W l d degree (k .accepted))
-      ∙ ap (λ (x : List (Entry Result)). elem c (map cl x)) (entries-table d (builtTable W d rows))
-      ∙ ap (elem c) clusters-are
-      ∙ elem-rows (listedAt W l) c (recordsIn W l)
-
   has-row-iff : (c : ℕ) → T (hasRow built c) ↔ HasCluster W l c
-  has-row-iff c = (to, from)
-    where
-      to : T (hasRow built c) → HasCluster W l c
-      to h = mem-down clusterAt (recordsIn W l) c (elem→ c (downTo clusterAt (recordsIn W l)) (subst T (has-row-is c) h))
-
-      from : HasCluster W l c → T (hasRow built c)
-      from q =
-          subst T (sym (has-row-is c))
-          (→elem c (downTo clusterAt (recordsIn W l)) (rw (q .2) (down-mem clusterAt (recordsIn W l) (q .0) (q .1))))
+  has-row-iff c =
+      let same = ap (λ (t : Table). hasRow t c) (built-table W l d degree (k .accepted))
+      ∙ ap (λ (x : List (Entry Result)). elem c (map cl x)) (entries-table d (builtTable W d rows))
+      ∙ ap (elem c) clusters-are in
+      (λ h. cluster-iff W l c .0 (subst T same h), λ q. subst T (sym same) (cluster-iff W l c .1 q))
 
   module _ (c : ℕ) (z : ℤ) (s : ℕ) where
     pub built-rescores-iff : (rescoreTable W (buildTable W l d .given) c z s .sent .number ≡ 0) ↔ (HasCluster W l c × T (isScore z s))

@@ -14,8 +14,9 @@ use Rattle.laws.specs.Limits.{wordValues}
 use Rattle.laws.specs.Row.{Row}
 use Rattle.trees.specs.Rows.{Entry, sc}
 use Rattle.trees.specs.Result.{Result}
-use Rattle.trees.specs.Kind.{Kind, overTuples, pairKind, countKind, solKind, Res}
+use Rattle.trees.specs.Kind.{Kind, overTuples, pairKind}
 use Rattle.trees.specs.Cover.{coversOf}
+use Rattle.trees.specs.Solution.{countKind, solKind, Res}
 use Rattle.kept.specs.declared.table.Table.{Table}
 use Rattle.table.specs.declared.tally.Tally.{Tally}
 use Rattle.table.specs.Tally.{decoded}

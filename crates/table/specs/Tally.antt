@@ -11,7 +11,7 @@ use Prim.Native.Nat.{ℕ, _+_, _-_, _/_, _%_, _^_}
 use lib.Dec.{eqb, ltb}
 use lib.IntN.{ℤ, pos}
 use Rattle.trees.specs.Result.{Result, countField, markField}
-use Rattle.trees.specs.Kind.{Sol, Res}
+use Rattle.trees.specs.Solution.{Sol, Res}
 use Rattle.laws.specs.Limits.{wordValues}
 use Rattle.table.specs.declared.tally.Tally.{Tally}
 

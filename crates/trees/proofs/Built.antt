@@ -31,8 +31,10 @@ use Rattle.trees.specs.Tuple.{isTuple}
 use Rattle.trees.specs.Heaviest.{firstHeaviest}
 use Rattle.trees.specs.Result.{Result, countField, markField}
 use Rattle.trees.specs.Built.{rowLength, withBest, builtResult, builtTable}
-use Rattle.trees.specs.Rescored.{Key, keyFirst, workedOut}
-use Rattle.trees.specs.Kind.{workedFrom, value, valueIf, build, Sol, solKind, Res}
+use Rattle.trees.specs.Rescored.{workedOut}
+use Rattle.trees.specs.Kind.{workedFrom, value, valueIf, build}
+use Rattle.trees.specs.Beneath.{Key, keyFirst}
+use Rattle.trees.specs.Solution.{Sol, solKind, Res}
 use Rattle.trees.proofs.Formula.Kind.{mapE}
 use Rattle.trees.proofs.Formula.Rows.{table-row, table-rows, mem-scored, givenOf}
 use Rattle.trees.proofs.Sets.TreeFacts.{Given}

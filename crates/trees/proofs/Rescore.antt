@@ -28,8 +28,9 @@ use Rattle.laws.proofs.Cluster.{inside-refl, inside-trans}
 use Rattle.trees.specs.Rows.{clustersOf, Entry, cl, sc}
 use Rattle.trees.specs.Tuple.{isTuple, tuples}
 use Rattle.trees.specs.Result.{Result, blank}
-use Rattle.trees.specs.Rescored.{keyOf, firstKey, isLive, joined, alone, workedOut, putScore, againIf, again, rescored}
+use Rattle.trees.specs.Rescored.{joined, alone, workedOut, putScore, againIf, again, rescored}
 use Rattle.trees.specs.Kind.{workedFrom}
+use Rattle.trees.specs.Beneath.{keyOf, firstKey, isLive}
 use Rattle.trees.proofs.Sets.Tuples.{part-inside}
 
 -- ---- only what lies inside counts

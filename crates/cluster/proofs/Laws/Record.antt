@@ -19,8 +19,9 @@ use lib.Seq.{sets, sets-eq, take-add, take-all, drop-cons}
 use mir.Facts.{toZ-ofZ, ofZ-toZ, fits-ofZ, fits-lt-pow, fits-of-lt}
 use mir.Syntax.{w32}
 use mir.Val.{SFits, toZ, ofZ}
-use Rattle.laws.specs.Limits.{Width, narrow, WidthFacts}
+use Rattle.laws.specs.Limits.{Width, narrow}
 use Rattle.laws.specs.Row.{Row}
+use Rattle.laws.specs.Widths.{WidthFacts}
 use Rattle.laws.proofs.Integers.{mag-le-abs}
 use Rattle.laws.proofs.Width.{narrow-facts}
 use Rattle.cluster.specs.declared.record.Record.{Record}

@@ -14,7 +14,8 @@ use mathlib.Core.Option.{Option, none, some}
 use Prim.Native.Nat.{ℕ, _<_}
 use native.Mathlib.Omega.{arith}
 use lib.ListN.{length}
-use Rattle.laws.specs.Limits.{Width, WidthFacts, rowCap}
+use Rattle.laws.specs.Limits.{Width, rowCap}
+use Rattle.laws.specs.Widths.{WidthFacts}
 use Rattle.laws.proofs.Tests.{true-T}
 use Rattle.cluster.specs.declared.refusal.Answer.{Answer}
 use Rattle.cluster.specs.declared.refusal.Answer.the-variants.{Done, Refused}

@@ -17,9 +17,10 @@ use native.Mathlib.Omega.{arith}
 use borrow.Author.Tests.{le-leb, lt-leb}
 use lib.Dec.{T, leb, leb→le, le→leb}
 use lib.ListN.{getD}
-use Rattle.laws.specs.Limits.{Width, WidthFacts, degreeLow, degreeHigh, isDegree, rowCap}
+use Rattle.laws.specs.Limits.{Width, degreeLow, degreeHigh, isDegree, rowCap}
 use Rattle.laws.specs.Lists.{Falling}
 use Rattle.laws.specs.Row.{Row}
+use Rattle.laws.specs.Widths.{WidthFacts}
 use Rattle.laws.proofs.Down.{mem-down, every→down, down→every, down-passed, down-stopped, falling-down, down-falling}
 use Rattle.laws.proofs.Tests.{T-and, and-T, T-false}
 use Rattle.cluster.specs.Rule.{Keeps, keepsRules}

@@ -14,9 +14,10 @@ use Prim.Native.Nat.{ℕ, _*_, _^_, _<_}
 use borrow.Author.Tests.{not-false}
 use lib.Dec.{T}
 use lib.ListN.{drop}
-use Rattle.laws.specs.Limits.{Width, WidthFacts}
+use Rattle.laws.specs.Limits.{Width}
 use Rattle.laws.specs.Lists.{elem}
 use Rattle.laws.specs.Row.{Row}
+use Rattle.laws.specs.Widths.{WidthFacts}
 use Rattle.laws.proofs.Down.{elem-down-iff}
 use Rattle.laws.proofs.Tests.{T-true, T-false, true-T}
 use Rattle.cluster.specs.Record.{hasSpare}

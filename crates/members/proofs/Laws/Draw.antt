@@ -1,42 +1,39 @@
--- What is drawn of a table, test by test, and what is known where something is drawn.
+-- What is drawn of a table, test by test.
 --     hasTree→             there is a tree: the leaf set has a row, and its count isn't 0
 --     hasTree-no-row, hasTree-no-count, hasTree-count     whether there is one, in turn
 --     drawn-unfit, drawn-no-tree, drawn-marks, drawn-whole     what is drawn, by the tests in turn
---     isSame-of            equal weights are the same; others aren't
---     Drawable W t         what is known of a table of which something is drawn
---     nothing-refused, drawable     nothing is refused exactly where it is so
+--     nothing-refused      where all pass, no reason applies
+--     isSame-refl, isSame→ weights that are the same
+--     found-unscored, found-other, found-no-tree, found-tree     what is drawn of the leaf set's row, by the tests of its marks in turn
 -- Assumes nothing.
-use mathlib.Core.Path.{_≡_, refl, sym, ap, ap₂, _∙_, subst}
+use mathlib.Core.Path.{_≡_, sym, ap, ap₂, _∙_}
 use mathlib.Core.Logic.{_≢_}
 use mathlib.Core.Bool.{Bool, true, false, not, _&&_, and-false}
 use mathlib.Core.Option.{Option, none, some}
-use mathlib.Core.List.{List, List·Memᴰ as Mem}
-use Prim.Native.Nat.{ℕ, _^_, _≤_, _<_}
+use Prim.Native.Nat.{ℕ, _≤_, _<_}
 use native.Mathlib.Nat.{min-eq-left}
-use native.Mathlib.Omega.{arith}
 use borrow.Author.Tests.{eq-eqb, ne-eqb, lt-ltb, le-ltb}
 use lib.Dec.{T, eqb, ltb, ltb→lt, T-not, not-T}
 use lib.IntN.{ℤ}
-use lib.ListN.{length}
+use lib.ListN.{length, take}
 use lib.Signed.{ltZ}
-use Rattle.laws.specs.Limits.{Width, rowCap}
-use Rattle.laws.specs.Lists.{Once}
+use Rattle.laws.specs.Limits.{Width}
 use Rattle.laws.proofs.Integers.{ltZ-irrefl, tri, Tri}
-use Rattle.laws.proofs.Tests.{T-and, and-T, T-true, T-false, true-T, neq→}
+use Rattle.laws.proofs.Tests.{T-and, and-T, T-true, T-false, neq→}
+use Rattle.trees.specs.Tree.{isTree}
 use Rattle.cluster.specs.declared.refusal.Answer.the-variants.{Done, Refused}
 use Rattle.cluster.specs.declared.refusal.Refusal.{Refusal}
 use Rattle.cluster.specs.declared.refusal.Refusal.the-variants.{NoTree, Unfit}
-use Rattle.trees.specs.Tree.{isTree}
+use Rattle.cluster.specs.Outcome.{Outcome, outcomeOf, ended}
+use Rattle.cluster.specs.Reasons.{firstReason}
 use Rattle.kept.specs.declared.table.Table.{Table}
 use Rattle.kept.specs.View.{resultAt}
 use Rattle.kept.specs.Fit.{isFit}
-use Rattle.kept.specs.Rows.{shownRows, leafSet}
-use Rattle.members.specs.Marked.{markedTo, membersTo, membersIn, scoredTo, weightTo}
-use Rattle.cluster.specs.Outcome.{Outcome, outcomeOf, ended}
-use Rattle.cluster.specs.Reasons.{Reason, when, firstReason}
-use Rattle.members.specs.Draw.{leafRow, hasTree, membersOf, isSame, areScored, weighsBest, isDrawable, drawReasons}
-use Rattle.members.specs.Draw.{DrawnMembers, noMembers, drawnMembers, drawnTree}
-use Rattle.members.specs.Gathered.{Found}
+use Rattle.members.specs.declared.marks.Members.{Members}
+use Rattle.members.specs.Marked.{markedTo, membersTo, membersIn, scoredTo, weightTo, isSame}
+use Rattle.members.specs.Draw.{leafRow, hasTree, isDrawable, drawReasons, DrawnMembers, noMembers, drawnMembers, drawnTree}
+use Rattle.members.specs.Gathered.{Gathered, Found}
+use Rattle.members.proofs.Laws.Gathered.{gathered-front}
 
 -- ---- whether there is a tree
 pub hasTree→ : (t : Table) → T (hasTree t) → (leafRow t < t .rows) × (resultAt t (leafRow t) .count ≢ 0)
@@ -93,13 +90,13 @@ isSame→ a b h = go (tri a b) (T-and (not (ltZ a b)) (not (ltZ b a)) h)
     go (Tri.same e) q = e
     go (Tri.more k) q = absurd (T-not (ltZ b a) (q .1) k)
 
--- ---- the tests of the marks, made of the leaf set's row
+-- ---- what is drawn of the leaf set's row, by the tests of its marks in turn
 module _ {W : Width} {t : Table} {c i : ℕ} (f : Found W t c i) where
   abbrev marks : ℕ
   marks = resultAt t i .members
 
-  abbrev members : List ℕ
-  members = membersTo (t .clusters) marks (t .rows)
+  abbrev refused : Outcome DrawnMembers
+  refused = outcomeOf (Refused Unfit) noMembers
 
   abbrev drawableAt : ℕ → ℕ → ℕ → Bool
   drawableAt k n C =
@@ -115,25 +112,34 @@ module _ {W : Width} {t : Table} {c i : ℕ} (f : Found W t c i) where
   drawable-at : isDrawable W t ≡ drawableAt i (t .rows) c
   drawable-at = λ j. drawableAt (sym (f .row) j) (min-eq-left (f .capped) j) (sym (f .top) j)
 
-  refused : drawableAt i (t .rows) c ≡ false → outcomeOf (Refused Unfit) noMembers ≡ drawnTree W t
-  refused h = sym (drawn-marks W t (f .fit) (f .tree) (drawable-at ∙ h))
+  undrawn : drawableAt i (t .rows) c ≡ false → refused ≡ drawnTree W t
+  undrawn h = sym (drawn-marks W t (f .fit) (f .tree) (drawable-at ∙ h))
 
-  pub found-unscored : scoredTo (t .states) marks (t .rows) ≡ false → outcomeOf (Refused Unfit) noMembers ≡ drawnTree W t
-  found-unscored h = refused (rw h)
+  module _ {r : Members} (g : Gathered (t .clusters) (t .weights) (t .states) marks (t .rows) r) where
+    tests-are : drawableAt i (t .rows) c
+        ≡ (r .scored && isSame (r .weight) (resultAt t i .best) && isTree (W .taxa) (t .degree) c (take (r .size) (r .clusters)))
+    tests-are = λ j.
+        sym (g .scored) j
+        && isSame (sym (g .weight) j) (resultAt t i .best)
+        && isTree (W .taxa) (t .degree) c (sym (gathered-front g) j)
 
-  module _ (a : scoredTo (t .states) marks (t .rows) ≡ true) where
-    pub found-other : weightTo (t .weights) marks (t .rows) ≢ resultAt t i .best → outcomeOf (Refused Unfit) noMembers ≡ drawnTree W t
-    found-other h = refused (rw (a, T-false (isSame (weightTo (t .weights) marks (t .rows)) (resultAt t i .best)) (λ k. h (isSame→ _ _ k))))
+    pub found-unscored : r .scored ≡ false → refused ≡ drawnTree W t
+    found-unscored h = undrawn (tests-are ∙ rw h)
 
-    module _ (b : weightTo (t .weights) marks (t .rows) ≡ resultAt t i .best) where
-      tests-are : drawableAt i (t .rows) c ≡ isTree (W .taxa) (t .degree) c members
-      tests-are = rw (a, b, T-true (isSame (resultAt t i .best) (resultAt t i .best)) (isSame-refl (resultAt t i .best)))
+    pub found-other : r .scored ≡ true → r .weight ≢ resultAt t i .best → refused ≡ drawnTree W t
+    found-other a h = undrawn (tests-are ∙ rw (a, T-false (isSame (r .weight) (resultAt t i .best)) (λ k. h (isSame→ _ _ k))))
 
-      pub found-no-tree : isTree (W .taxa) (t .degree) c members ≡ false → outcomeOf (Refused Unfit) noMembers ≡ drawnTree W t
-      found-no-tree h = refused (tests-are ∙ h)
+    module _ (a : r .scored ≡ true) (b : r .weight ≡ resultAt t i .best) where
+      tree-is : isDrawable W t ≡ isTree (W .taxa) (t .degree) c (take (r .size) (r .clusters))
+      tree-is =
+          drawable-at ∙ tests-are ∙ rw (a, b, T-true (isSame (resultAt t i .best) (resultAt t i .best)) (isSame-refl (resultAt t i .best)))
 
-      pub found-tree : isTree (W .taxa) (t .degree) c members ≡ true
-          → outcomeOf (Done 0) (membersAt i (t .rows)) ≡ drawnTree W t
+      pub found-no-tree : isTree (W .taxa) (t .degree) c (take (r .size) (r .clusters)) ≡ false → refused ≡ drawnTree W t
+      found-no-tree h = sym (drawn-marks W t (f .fit) (f .tree) (tree-is ∙ h))
+
+      pub found-tree : isTree (W .taxa) (t .degree) c (take (r .size) (r .clusters)) ≡ true
+          → outcomeOf (Done 0) (record { row = i; clusters = r .clusters; size = r .size }) ≡ drawnTree W t
       found-tree h =
-          sym (drawn-whole W t (f .fit) (f .tree) (drawable-at ∙ tests-are ∙ h)
-          ∙ λ j. outcomeOf (Done 0) (membersAt (sym (f .row) j) (min-eq-left (f .capped) j)))
+          (λ j. outcomeOf (Done 0) (record { row = i; clusters = g .clusters j; size = g .size j }))
+          ∙ (λ j. outcomeOf (Done 0) (membersAt (f .row j) (sym (min-eq-left (f .capped)) j)))
+          ∙ sym (drawn-whole W t (f .fit) (f .tree) (tree-is ∙ h))

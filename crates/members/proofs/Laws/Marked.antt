@@ -1,7 +1,7 @@
 -- The marked rows one by one.
 --     mark-past                          the mark of a row from 64 on stands in the high word
 --     marked-takes, marked-skips         one row more, marked or not
---     length-marked-le, mem-marked, falling-marked     no more than there are rows; which they are; the last stands first
+--     mem-marked, falling-marked         which rows they are; the last stands first
 --     scored-skips, scored-takes         one row more: not marked; marked, and scored or not
 --     mem-members                        each is the cluster of a marked row
 --     falling-members                    where the rows ascend, so do the members
@@ -14,14 +14,14 @@ use Prim.Native.Nat.{ℕ, _+_, _-_, _*_, _≤_, _<_}
 use native.Mathlib.Numerals.{add-one}
 use native.Mathlib.Omega.{arith}
 use lib.Dec.{T}
-use lib.ListN.{length, getD}
+use lib.ListN.{getD}
 use Rattle.laws.specs.Limits.{wordValues}
 use Rattle.laws.specs.Lists.{every, Falling, places}
 use Rattle.laws.specs.State.{scored}
 use Rattle.laws.proofs.Appended.{mem-of-reverse}
-use Rattle.laws.proofs.Down.{down-length, mem-down, down-falling}
+use Rattle.laws.proofs.Down.{mem-down, down-falling}
 use Rattle.laws.proofs.Falling.{in-turn-keep}
-use Rattle.laws.proofs.Keep.{mem-of-keep, length-keep-le}
+use Rattle.laws.proofs.Keep.{mem-of-keep}
 use Rattle.kept.specs.Marks.{hasMark}
 use Rattle.kept.proofs.Laws.Marks.{mark-high}
 use Rattle.members.specs.Marked.{markedTo, membersTo, scoredTo}
@@ -39,9 +39,6 @@ module _ (m : ℕ) where
 
   pub marked-skips : (i : ℕ) → hasMark m i ≡ false → markedTo m (i + 1) ≡ markedTo m i
   marked-skips i e = rw (add-one i, e)
-
-  pub length-marked-le : (n : ℕ) → length (markedTo m n) ≤ n
-  length-marked-le n = omega (arith, length-keep-le (hasMark m) (places n), down-length (λ (i : ℕ). i) n)
 
   pub mem-marked : (n i : ℕ) → Mem i (markedTo m n) → (i < n) × T (hasMark m i)
   mem-marked n i k =

@@ -18,7 +18,8 @@ use lib.IntN.{ℤ, pos}
 use lib.ListN.{getD, set, length-set}
 use lib.Seq.{getD-set-same, getD-set-other}
 use Rattle.laws.specs.Cluster.{inside}
-use Rattle.laws.specs.Limits.{Width, WidthFacts, rowCap, wordValues}
+use Rattle.laws.specs.Limits.{Width, rowCap, wordValues}
+use Rattle.laws.specs.Widths.{WidthFacts}
 use Rattle.laws.proofs.Cluster.{inside-refl}
 use Rattle.cluster.specs.Rule.{isScore, keepsRules}
 use Rattle.trees.specs.Rows.{Entry}

@@ -14,9 +14,10 @@ use native.Mathlib.Omega.{arith}
 use lib.Dec.{T}
 use lib.ListN.{length}
 use Rattle.laws.specs.Cluster.{inside}
-use Rattle.laws.specs.Limits.{Width, few}
+use Rattle.laws.specs.Limits.{Width}
 use Rattle.laws.specs.Lists.{Falling}
 use Rattle.laws.specs.Row.{Row}
+use Rattle.laws.specs.Widths.{few}
 use Rattle.laws.proofs.Choose.{few-mono}
 use Rattle.laws.proofs.Tests.{T-dec, T-true, T-false}
 use Rattle.cluster.specs.Rule.{keepsRules}

@@ -17,9 +17,10 @@ use lib.Dec.{T, eqb}
 use lib.IntN.{ℤ}
 use lib.ListN.{length, length-map}
 use Rattle.laws.specs.Cluster.{inside}
-use Rattle.laws.specs.Limits.{Width, WidthFacts, degreeLow, degreeHigh}
+use Rattle.laws.specs.Limits.{Width, degreeLow, degreeHigh}
 use Rattle.laws.specs.Lists.{Falling}
 use Rattle.laws.specs.Row.{Row}
+use Rattle.laws.specs.Widths.{WidthFacts}
 use Rattle.laws.proofs.Appended.{map-through}
 use Rattle.laws.proofs.Cluster.{zero-inside}
 use Rattle.laws.proofs.Down.{down-length, down-mem}

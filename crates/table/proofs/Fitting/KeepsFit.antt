@@ -20,9 +20,10 @@ use lib.IntN.{natAbs}
 use lib.ListN.{length, length-map}
 use lib.Pow.{pow-pos}
 use Rattle.laws.specs.Cluster.{inside, single}
-use Rattle.laws.specs.Limits.{Width, weightMax, few}
+use Rattle.laws.specs.Limits.{Width, weightMax}
 use Rattle.laws.specs.Lists.{keep, Falling}
 use Rattle.laws.specs.Row.{Row, isScored}
+use Rattle.laws.specs.Widths.{few}
 use Rattle.laws.proofs.Choose.{few-mono}
 use Rattle.laws.proofs.Keep.{mem-of-keep, length-keep-le, keep-all}
 use Rattle.cluster.specs.Rule.{keepsRules}
@@ -30,8 +31,10 @@ use Rattle.cluster.proofs.Laws.Rule.{rules→}
 use Rattle.trees.specs.Rows.{Entry, cl, sc}
 use Rattle.trees.specs.Tuple.{tuples}
 use Rattle.trees.specs.Result.{Result, blank, countField, markField}
-use Rattle.trees.specs.Rescored.{keyOf, firstKey, isLive, joined, alone, workedOut}
-use Rattle.trees.specs.Kind.{overTuples, valueIf, Sol, solKind, Res}
+use Rattle.trees.specs.Rescored.{joined, alone, workedOut}
+use Rattle.trees.specs.Kind.{overTuples, valueIf}
+use Rattle.trees.specs.Beneath.{keyOf, firstKey, isLive}
+use Rattle.trees.specs.Solution.{Sol, solKind, Res}
 use Rattle.trees.proofs.Counting.Capped.{encode, encodeSol, Counted, second, past, count-small, count-large}
 use Rattle.trees.proofs.Formula.Kind.{mapE}
 use Rattle.trees.proofs.Ties.Marks.{marks-lt, marks-inj}

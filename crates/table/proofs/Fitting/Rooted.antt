@@ -27,7 +27,8 @@ use Rattle.laws.proofs.Taxa.{size-pos}
 use Rattle.laws.proofs.Tests.{or-l}
 use Rattle.trees.specs.Rows.{Entry, cl}
 use Rattle.trees.specs.Tuple.{allApart, isTuple, tuples}
-use Rattle.trees.specs.Kind.{overTuples, Sol, timesSol, solKind}
+use Rattle.trees.specs.Kind.{overTuples}
+use Rattle.trees.specs.Solution.{Sol, timesSol, solKind}
 use Rattle.trees.proofs.Sets.Families.{one, join, Disj}
 use Rattle.trees.proofs.Ties.Marks.{marks-join}
 use Rattle.trees.proofs.Sets.Tuples.{tuple→}

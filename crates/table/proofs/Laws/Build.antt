@@ -21,8 +21,9 @@ use lib.IntN.{pos}
 use lib.ListN.{length, length-map, replicate}
 use Rattle.laws.specs.Cluster.{inside}
 use Rattle.laws.specs.Column.{column}
-use Rattle.laws.specs.Limits.{Width, WidthFacts, degreeLow, degreeHigh, isDegree, rowCap, wordValues}
+use Rattle.laws.specs.Limits.{Width, degreeLow, degreeHigh, isDegree, rowCap, wordValues}
 use Rattle.laws.specs.Row.{Row}
+use Rattle.laws.specs.Widths.{WidthFacts}
 use Rattle.laws.proofs.Appended.{map-through}
 use Rattle.laws.proofs.Cluster.{zero-inside}
 use Rattle.laws.proofs.Column.{column-keep}
@@ -104,7 +105,8 @@ unworked-clusters = clusters-of-rows (λ (r : Row). blank)
 again-all : (F : Row → List (Entry Result) → Result) (rs : List Row) → again F 0 (map unworkedRow rs) ≡ workedFrom F rs
 again-all F [] = refl
 again-all F (r ∷ rs) =
-    ap (λ (b : Bool). againIf F b (unworkedRow r) (again F 0 (map unworkedRow rs))) (T-true (inside 0 (r .cluster)) (zero-inside (r .cluster)))
+    ap (λ (b : Bool). againIf F b (unworkedRow r) (again F 0 (map unworkedRow rs)))
+    (T-true (inside 0 (r .cluster)) (zero-inside (r .cluster)))
     ∙ ap (λ (t : List (Entry Result)). record { row = r; val = F r t } ∷ t) (again-all F rs)
 
 pub again-built : {W : Width} → WidthFacts W → (d : ℕ) (rs : List Row) → RowFacts (W .taxa) rs

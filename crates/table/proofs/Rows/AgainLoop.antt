@@ -15,8 +15,9 @@ use lib.IntN.{ℤ, pos}
 use lib.ListN.{getD}
 use lib.Seq.{getD-set-same, getD-set-other}
 use Rattle.laws.specs.Cluster.{inside}
-use Rattle.laws.specs.Limits.{Width, WidthFacts, rowCap, wordValues}
+use Rattle.laws.specs.Limits.{Width, rowCap, wordValues}
 use Rattle.laws.specs.Row.{Row}
+use Rattle.laws.specs.Widths.{WidthFacts}
 use Rattle.trees.specs.Rows.{Entry}
 use Rattle.trees.specs.Result.{Result}
 use Rattle.trees.specs.Rescored.{workedOut, againIf, again}

@@ -14,9 +14,10 @@ use lib.IntN.{ℤ, pos, natAbs}
 use lib.ListN.{getD}
 use mir.Syntax.{w32}
 use mir.Val.{SFits}
-use Rattle.laws.specs.Limits.{Width, WidthFacts, weightMax, wordValues}
+use Rattle.laws.specs.Limits.{Width, weightMax, wordValues}
 use Rattle.laws.specs.Lists.{Falling}
 use Rattle.laws.specs.Row.{Row}
+use Rattle.laws.specs.Widths.{WidthFacts}
 use Rattle.laws.proofs.Down.{down-length, down-mem}
 use Rattle.trees.specs.Rows.{Entry}
 use Rattle.trees.specs.Result.{Result}
@@ -121,7 +122,8 @@ module _ {W : Width} (facts : WidthFacts W) {given : Table} {c : ℕ} (w : Worka
       small = clusters-same (λ (l : List ℕ). getD l i 0 < wordValues) (cluster-word facts w i h);
       low = w .low;
       high = w .high;
-      light = subst (λ (l : List ℤ). natAbs (getD l i (pos 0)) ≤ weightMax) (sym (p .weights)) (given-rules facts w i h .1 .score .in-range);
+      light = subst (λ (l : List ℤ). natAbs (getD l i (pos 0)) ≤ weightMax) (sym (p .weights))
+          (given-rules facts w i h .1 .score .in-range);
     }
 
     pub weight-at : i < given .rows → SFits w32 (getD (t .weights) i (pos 0))

@@ -21,7 +21,7 @@ use Rattle.laws.specs.Cluster.{size, single, highest}
 use Rattle.laws.specs.Limits.{Width, weightMax, wordValues}
 use Rattle.laws.specs.State.{scored}
 use Rattle.laws.proofs.Taxa.{size-pos, highest-le, highest-gt}
-use Rattle.trees.specs.Kind.{Sol, timesSol, Res}
+use Rattle.trees.specs.Solution.{Sol, timesSol, Res}
 use Rattle.trees.proofs.Counting.Capped.{count-small}
 use Rattle.trees.proofs.Counting.Worked.{markIn}
 use Rattle.trees.proofs.Sets.Families.{one, Disj}

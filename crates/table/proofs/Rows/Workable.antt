@@ -19,9 +19,10 @@ use lib.Pow.{pow-mono}
 use mir.Syntax.{w32}
 use mir.Val.{SFits}
 use Rattle.laws.specs.Cluster.{inside}
-use Rattle.laws.specs.Limits.{Width, WidthFacts, few, wordValues}
+use Rattle.laws.specs.Limits.{Width, wordValues}
 use Rattle.laws.specs.Lists.{Falling}
 use Rattle.laws.specs.Row.{Row}
+use Rattle.laws.specs.Widths.{WidthFacts, few}
 use Rattle.laws.proofs.Down.{down-length, mem-down, down-mem, down-falling}
 use Rattle.laws.proofs.Integers.{mag-le-abs}
 use Rattle.cluster.specs.Rule.{Keeps, keepsRules}

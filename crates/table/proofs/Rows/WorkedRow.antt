@@ -26,8 +26,9 @@ use Rattle.trees.specs.Rows.{Entry, cl, sc}
 use Rattle.trees.specs.Tuple.{tuples}
 use Rattle.trees.specs.Result.{Result}
 use Rattle.trees.specs.Rescored.{workedOut}
-use Rattle.trees.specs.Kind.{Kind, prodK, overTuples, valueIf, Sol, timesSol, solKind, Res}
+use Rattle.trees.specs.Kind.{Kind, prodK, overTuples, valueIf}
 use Rattle.trees.specs.Cover.{coversOf}
+use Rattle.trees.specs.Solution.{Sol, timesSol, solKind, Res}
 use Rattle.trees.proofs.Counting.Capped.{second}
 use Rattle.trees.proofs.Counting.Worked.{markIn, lengthIf, trueResult}
 use Rattle.trees.proofs.Formula.Kind.{mapE, tuples-map}

@@ -13,7 +13,7 @@ use native.Mathlib.Decide.{decLe}
 use native.Mathlib.Nat.{le-div-iff-mul-le, mul-le-mul-left, mul-le-mul-right, mul-one, one-mul}
 use native.Mathlib.Omega.{arith}
 use Rattle.trees.specs.Result.{countField, markField}
-use Rattle.trees.specs.Kind.{Sol, Res}
+use Rattle.trees.specs.Solution.{Sol, Res}
 use Rattle.trees.proofs.Counting.Capped.{trueCount, count-small, count-large, past}
 use Rattle.table.specs.declared.tally.Count.{Count}
 use Rattle.table.specs.declared.tally.Tally.{Tally}

@@ -18,8 +18,8 @@ use Rattle.laws.proofs.Keep.{mem-of-keep, length-keep-le}
 use Rattle.laws.proofs.Sublists.{mem-of-sublist}
 use Rattle.trees.specs.Rows.{Entry, cl, sc}
 use Rattle.trees.specs.Tuple.{allApart}
-use Rattle.trees.specs.Kind.{countKind, solKind, Res}
 use Rattle.trees.specs.Cover.{isCover, coversOf}
+use Rattle.trees.specs.Solution.{countKind, solKind, Res}
 use Rattle.trees.proofs.Searching.Covers.{cover→, takeIf, chosen, chosen-is}
 use Rattle.trees.proofs.Formula.Kind.{hom-second}
 use Rattle.table.specs.Columns.{sumKind, sumCovers}

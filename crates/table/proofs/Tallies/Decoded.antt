@@ -25,7 +25,7 @@ use Rattle.laws.proofs.Cluster.{le-of-inside}
 use Rattle.laws.proofs.Taxa.{size-pos}
 use Rattle.trees.specs.Result.{Result, countField, markField}
 use Rattle.trees.specs.Rows.{Entry}
-use Rattle.trees.specs.Kind.{Sol, Res}
+use Rattle.trees.specs.Solution.{Sol, Res}
 use Rattle.trees.proofs.Counting.Capped.{encode, encodeSol, count-small, count-large}
 use Rattle.kept.specs.Fit.{fitEntry}
 use Rattle.kept.specs.Marks.{isMarkedIn}

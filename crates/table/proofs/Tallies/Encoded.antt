@@ -17,14 +17,15 @@ use lib.Signed.{ltZ}
 use Rattle.laws.specs.Limits.{wordValues}
 use Rattle.laws.proofs.Tests.{bool-ext}
 use Rattle.trees.specs.Result.{countField, markField}
-use Rattle.trees.specs.Rescored.{keyFirst}
-use Rattle.trees.specs.Kind.{Sol, plusSol, timesSol, Res}
+use Rattle.trees.specs.Beneath.{keyFirst}
+use Rattle.trees.specs.Solution.{Sol, plusSol, timesSol, Res}
 use Rattle.trees.proofs.Counting.Capped.{trueCount, Counted}
 use Rattle.table.specs.declared.tally.Count.{Count}
 use Rattle.table.specs.declared.tally.Tally.{Tally}
 use Rattle.table.specs.Tally.{tallyWith, tallyOf}
 use Rattle.table.specs.Columns.{sumKind}
-use Rattle.table.specs.Sums.{noTally, exactCount, cappedSum, cappedProduct, isLarger, isBefore, keepsFirst, withTuples, withCount, plusTally, underTally}
+use Rattle.table.specs.Sums.{noTally, exactCount, cappedSum, cappedProduct, isLarger, isBefore, keepsFirst}
+use Rattle.table.specs.Sums.{withTuples, withCount, plusTally, underTally}
 use Rattle.table.proofs.Tallies.Tally.{cappedProduct-none-l, cappedProduct-none-r}
 use Rattle.table.proofs.Tallies.Tally.{isLarger-high, isLarger-low}
 use Rattle.table.proofs.Tallies.Tally.{isBefore-by, keepsFirst-none-r, keepsFirst-none-l, keepsFirst-both}

@@ -32,10 +32,11 @@ use Rattle.laws.proofs.Integers.{abs-sum-le}
 use Rattle.laws.proofs.Taxa.{size-part}
 use Rattle.laws.proofs.Tests.{T-and, T-or}
 use Rattle.trees.specs.Result.{marksIn}
-use Rattle.trees.specs.Rescored.{keyFirst}
 use Rattle.trees.specs.Rows.{Entry, cl}
 use Rattle.trees.specs.Tuple.{allApart}
-use Rattle.trees.specs.Kind.{Kind, prodK, overTuples, Sol, plusSol, timesSol, solKind, Res}
+use Rattle.trees.specs.Kind.{Kind, prodK, overTuples}
+use Rattle.trees.specs.Beneath.{keyFirst}
+use Rattle.trees.specs.Solution.{Sol, plusSol, timesSol, solKind, Res}
 use Rattle.trees.proofs.Sets.Families.{Fam, join, empty, Disj}
 use Rattle.trees.proofs.Formula.Kind.{Hom}
 use Rattle.trees.proofs.Counting.Capped.{Counted}

@@ -24,7 +24,7 @@ use Rattle.laws.specs.Limits.{weightMax, rowCap, wordValues}
 use Rattle.laws.proofs.Integers.{abs-sum-le, mag-le-abs}
 use Rattle.laws.proofs.Taxa.{size-part}
 use Rattle.trees.specs.Result.{marksIn}
-use Rattle.trees.specs.Kind.{Sol}
+use Rattle.trees.specs.Solution.{Sol}
 use Rattle.trees.proofs.Sets.Families.{Fam, join, empty, Disj}
 use Rattle.trees.proofs.Ties.Marks.{marks-lt, marks-none, marks-join, no-carry}
 use Rattle.table.specs.declared.tally.Tally.{Tally}

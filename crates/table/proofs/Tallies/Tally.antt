@@ -17,7 +17,8 @@ use lib.IntN.{ℤ, _+ℤ_}
 use lib.Signed.{ltZ}
 use Rattle.table.specs.declared.tally.Count.{Count}
 use Rattle.table.specs.declared.tally.Tally.{Tally}
-use Rattle.table.specs.Sums.{manyCount, exactCount, cappedSum, cappedProduct, isLarger, isBefore, keepsFirst, noTally, withTuples, withCount, plusTally, joinTally, underTally}
+use Rattle.table.specs.Sums.{manyCount, exactCount, cappedSum, cappedProduct, isLarger, isBefore, keepsFirst}
+use Rattle.table.specs.Sums.{noTally, withTuples, withCount, plusTally, joinTally, underTally}
 
 -- ---- counts
 

@@ -24,7 +24,7 @@ use Rattle.laws.proofs.Descends.{Descends}
 use Rattle.laws.proofs.Down.{mem-down, down-mem}
 use Rattle.laws.proofs.Tests.{true-T}
 use Rattle.trees.specs.Rows.{Entry, cl, sc}
-use Rattle.trees.specs.Kind.{Res}
+use Rattle.trees.specs.Solution.{Res}
 use Rattle.trees.proofs.Searching.Search.{lookup, lookup-row, lookup-missing, search-one}
 use Rattle.kept.proofs.Laws.Clusters.{rising-part}
 use Rattle.table.specs.Tally.{tallyOf, decoded}

@@ -19,7 +19,7 @@ use Rattle.laws.specs.Limits.{degreeHigh, wordValues}
 use Rattle.laws.specs.State.{scored}
 use Rattle.laws.proofs.Down.{mem-down}
 use Rattle.trees.specs.Rows.{Entry, cl, sc}
-use Rattle.trees.specs.Kind.{Res}
+use Rattle.trees.specs.Solution.{Res}
 use Rattle.trees.proofs.Counting.Capped.{Counted}
 use Rattle.trees.proofs.Searching.Leads.{leads}
 use Rattle.trees.proofs.Counting.Worked.{counted-plus}

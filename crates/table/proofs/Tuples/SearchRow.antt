@@ -27,7 +27,7 @@ use Rattle.laws.proofs.Cluster.{le-of-inside}
 use Rattle.laws.proofs.Taxa.{highest-le, highest-gt}
 use Rattle.laws.proofs.Tests.{true-T}
 use Rattle.trees.specs.Rows.{Entry, sc}
-use Rattle.trees.specs.Kind.{timesSol, Res}
+use Rattle.trees.specs.Solution.{timesSol, Res}
 use Rattle.trees.proofs.Counting.Capped.{Counted}
 use Rattle.trees.proofs.Searching.Leads.{leads, leads-of-reach}
 use Rattle.trees.proofs.Searching.Search.{gain, gain-whole, gain-part}

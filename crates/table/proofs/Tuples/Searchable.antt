@@ -18,7 +18,7 @@ use Rattle.laws.proofs.Descends.{Descends}
 use Rattle.laws.proofs.Down.{down-length}
 use Rattle.laws.proofs.Taxa.{highest-le}
 use Rattle.trees.specs.Rows.{Entry, cl, sc}
-use Rattle.trees.specs.Kind.{Res}
+use Rattle.trees.specs.Solution.{Res}
 use Rattle.kept.proofs.Laws.Marks.{highest-lt}
 use Rattle.table.specs.Searched.{Past, Searchable}
 use Rattle.table.specs.Columns.{Columns, partAt, partsOf, sumCovers}

@@ -26,8 +26,9 @@ use Rattle.laws.proofs.Descends.{Descends, descends-of-falling}
 use Rattle.laws.proofs.Down.{down-map, mem-down, down-falling}
 use Rattle.laws.proofs.Tests.{T-false}
 use Rattle.trees.specs.Rows.{Entry, cl, sc}
-use Rattle.trees.specs.Kind.{overTuples, countKind, solKind, Res}
+use Rattle.trees.specs.Kind.{overTuples}
 use Rattle.trees.specs.Cover.{coversOf}
+use Rattle.trees.specs.Solution.{countKind, solKind, Res}
 use Rattle.trees.proofs.Counting.Keys.{count-lawful, sol-lawful}
 use Rattle.trees.proofs.Formula.Kind.{Lawful, pair-lawful}
 use Rattle.trees.proofs.Searching.Leads.{within, coversOf-scored}

@@ -15,9 +15,10 @@ use native.Mathlib.Omega.{arith}
 use lib.Dec.{T, eqb}
 use lib.ListN.{length, length-map}
 use Rattle.laws.specs.Cluster.{single}
-use Rattle.laws.specs.Limits.{Width, degreeHigh, few, WidthFacts}
+use Rattle.laws.specs.Limits.{Width, degreeHigh}
 use Rattle.laws.specs.Lists.{keep, sublists}
 use Rattle.laws.specs.Row.{Row, isScored}
+use Rattle.laws.specs.Widths.{few, WidthFacts}
 use Rattle.laws.proofs.Choose.{few-mono, Sized, few-le, few-le-other}
 use Rattle.laws.proofs.Keep.{mem-keep, mem-of-keep, length-keep-le}
 use Rattle.laws.proofs.Sublists.{mem-of-sublist}

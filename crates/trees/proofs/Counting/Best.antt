@@ -23,7 +23,8 @@ use Rattle.laws.proofs.Cluster.{inside-antisym, zero-of-apart, apart-of-inside}
 use Rattle.trees.specs.Rows.{clustersOf, scoredIn, Entry, cl, sc, RowFacts}
 use Rattle.trees.specs.Tree.{treesOn}
 use Rattle.trees.specs.Tuple.{allApart, isTuple, tuples}
-use Rattle.trees.specs.Kind.{Kind, prodK, overTuples, valueIf, value, build, pairKind, Sol, solKind}
+use Rattle.trees.specs.Kind.{Kind, prodK, overTuples, valueIf, value, build, pairKind}
+use Rattle.trees.specs.Solution.{Sol, solKind}
 use Rattle.trees.proofs.Sets.Families.{Fam, join, empty, one, mem-of-cross, Disj}
 use Rattle.trees.proofs.Formula.Kind.{mapE, hom-first, hom-second, hom-build}
 use Rattle.trees.proofs.Sets.Tuples.{tuple→, part-inside, apart-first, apart-rest, tuple-mem, scored-part}

@@ -17,8 +17,8 @@ use Rattle.laws.proofs.Keep.{nil-of-none}
 use Rattle.trees.specs.Rows.{clustersOf}
 use Rattle.trees.specs.Heaviest.{weightIn}
 use Rattle.trees.specs.Result.{marksIn}
-use Rattle.trees.specs.Rescored.{Key}
-use Rattle.trees.specs.Kind.{top, joinK, Sol, plusSol, timesSol}
+use Rattle.trees.specs.Beneath.{Key}
+use Rattle.trees.specs.Solution.{top, joinK, Sol, plusSol, timesSol}
 use Rattle.trees.proofs.Sets.Families.{Fam, join, empty, cross, mem-cross, mem-of-cross, length-cross, Disj}
 use Rattle.trees.proofs.Ties.Marks.{marks-none, marks-join, weight-none, weight-join}
 use Rattle.trees.proofs.Counting.Keys.{top-self, top-cases, AtLeast, least-trans, least-top-l, least-top-r, join-least}

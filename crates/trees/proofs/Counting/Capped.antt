@@ -25,8 +25,8 @@ use Rattle.laws.specs.Lists.{any}
 use Rattle.laws.proofs.Tests.{T-false, cond-true, cond-false}
 use Rattle.trees.specs.Rows.{Entry}
 use Rattle.trees.specs.Result.{Result, countField, markField}
-use Rattle.trees.specs.Rescored.{timesCounts, sumCounts, isLive, isMarked, isMany}
-use Rattle.trees.specs.Kind.{Res, Sol, plusSol, timesSol, countKind, solKind}
+use Rattle.trees.specs.Beneath.{timesCounts, sumCounts, isLive, isMarked, isMany}
+use Rattle.trees.specs.Solution.{Res, Sol, plusSol, timesSol, countKind, solKind}
 use Rattle.trees.proofs.Formula.Kind.{mapE, Hom}
 
 abbrev pub encodeSol : ℕ → ℕ → Option Sol → Result

@@ -18,8 +18,8 @@ use lib.IntN.{ℤ, pos, _+ℤ_, +ℤ-idr, +ℤ-comm}
 use lib.Signed.{ltZ}
 use Rattle.laws.proofs.Tests.{cond-true, cond-false}
 use Rattle.laws.proofs.Integers.{ltZ-add}
-use Rattle.trees.specs.Rescored.{Key, keyFirst}
-use Rattle.trees.specs.Kind.{top, joinK, countKind, Sol, plusSol, timesSol, solKind}
+use Rattle.trees.specs.Beneath.{Key, keyFirst}
+use Rattle.trees.specs.Solution.{top, joinK, countKind, Sol, plusSol, timesSol, solKind}
 use Rattle.trees.proofs.Formula.Kind.{Lawful}
 use Rattle.trees.proofs.Ties.KeyOrder.{Before, heavier, level, before→, →before, key-irrefl, key-trans, Which, ahead, same, behind, which}
 

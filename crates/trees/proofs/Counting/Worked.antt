@@ -28,8 +28,10 @@ use Rattle.laws.proofs.Keep.{keep-map}
 use Rattle.trees.specs.Rows.{Entry, sc}
 use Rattle.trees.specs.Tuple.{tuples}
 use Rattle.trees.specs.Result.{Result, blank, countField, markField}
-use Rattle.trees.specs.Rescored.{counted, isLive, Key, keyOf, firstOfKeys, firstKey, joined, alone, together, workedOut}
-use Rattle.trees.specs.Kind.{Kind, prodK, overTuples, valueIf, value, joinK, Sol, plusSol, timesSol, countKind, solKind, Res}
+use Rattle.trees.specs.Rescored.{joined, alone, together, workedOut}
+use Rattle.trees.specs.Kind.{Kind, prodK, overTuples, valueIf, value}
+use Rattle.trees.specs.Beneath.{counted, isLive, Key, keyOf, firstOfKeys, firstKey}
+use Rattle.trees.specs.Solution.{joinK, Sol, plusSol, timesSol, countKind, solKind, Res}
 pub use Rattle.trees.proofs.Ties.Marks.{markIn}
 use Rattle.trees.proofs.Formula.Kind.{mapE, tuples-map, hom-sum}
 use Rattle.trees.proofs.Sets.Tuples.{scored-part}

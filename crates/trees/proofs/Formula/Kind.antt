@@ -17,8 +17,8 @@ use Rattle.laws.proofs.Keep.{keep-ext, keep-map}
 use Rattle.laws.proofs.Sublists.{sublists-map}
 use Rattle.trees.specs.Rows.{Entry, cl}
 use Rattle.trees.specs.Tuple.{isTuple, tuples}
-use Rattle.trees.specs.Rescored.{summed}
 use Rattle.trees.specs.Kind.{Kind, prodK, overTuples, valueIf, value, build, pairKind}
+use Rattle.trees.specs.Beneath.{summed}
 
 module _ {A : Type 0} (k : Kind A) where
   pub record Lawful : Type 0 where

@@ -27,8 +27,8 @@ use Rattle.laws.proofs.Sublists.{sublists-map-keep}
 use Rattle.laws.proofs.Tests.{T-dec, cond-true, cond-false}
 use Rattle.trees.specs.Rows.{clustersOf, scoredIn}
 use Rattle.trees.specs.Heaviest.{weightOf, comesFirst, firstOf, firstHeaviest}
-use Rattle.trees.specs.Rescored.{Key, keyFirst}
 use Rattle.trees.specs.Result.{marksOf}
+use Rattle.trees.specs.Beneath.{Key, keyFirst}
 use Rattle.trees.proofs.Ties.KeyOrder.{key-irrefl, key-trans, Which, ahead, same, behind, which}
 use Rattle.trees.proofs.Ties.Marks.{marksOf-inj}
 use Rattle.trees.proofs.Ties.TieRule.{tie-is-order}

@@ -14,7 +14,7 @@ use lib.IntN.{ℤ}
 use lib.Signed.{ltZ}
 use Rattle.laws.proofs.Integers.{ltZ-trans, ltZ-irrefl, Tri, tri}
 use Rattle.laws.proofs.Tests.{T-and, and-T, T-or, or-l, or-r}
-use Rattle.trees.specs.Rescored.{Key, keyFirst}
+use Rattle.trees.specs.Beneath.{Key, keyFirst}
 
 pub data Before (x y : Key) : Type 0 where
   heavier : T (ltZ (y .0) (x .0)) → Before x y

@@ -1,79 +1,69 @@
 -- `members::draw::drawn_members` meets its contract: the three tests of the marks, in the definition's order. Assumes nothing.
-use mathlib.Core.Path.{_≡_, sym, ap, ap₂, _∙_}
-use mathlib.Core.Bool.{true}
-use mathlib.Core.List.{List}
-use Prim.Native.Nat.{ℕ}
+use mathlib.Core.Path.{_≡_, ap, _∙_}
 use borrow.Author.Needs.{needs}
 use borrow.Author.Tests.{not-true, not-false}
 use mir.Syntax.{w64}
 use mir.Val.{ofZ}
-use Rattle.laws.specs.Limits.{narrow}
-use Rattle.cluster.specs.declared.refusal.Answer.the-variants.{Done}
-use Rattle.trees.specs.Tree.{isTree}
+use Rattle.laws.proofs.Tests.{passed, failed}
 use Rattle.kept.specs.View.{resultAt}
-use Rattle.members.specs.Marked.{scoredTo, weightTo}
-use Rattle.cluster.specs.Outcome.{outcomeOf}
 use Rattle.members.proofs.Laws.Weighed.{same-bits}
-use Rattle.members.proofs.Laws.Gathered.{gathered-fits, gathered-count, gathered-front}
+use Rattle.members.proofs.Laws.Gathered.{gathered-fits, gathered-count}
 use Rattle.members.proofs.Laws.Draw.{found-unscored, found-other, found-no-tree, found-tree}
 use Rattle.members.proofs.draw.drawn_members.Statement.{statement}
 use Rattle.members.proofs.draw.drawn_members.Tie as tie
 
--- ---- the places past each test: where the function started, and what is known
-abbrev first-start : tie.Else1 → tie.Start
-first-start s = s .before .before .before .before .before .before
+-- ---- the places past each test: where the members were gathered and the function started, and what is known
+abbrev gathered-start : tie.After-members-of → tie.Start
+gathered-start s = s .before .before .before .before .before .before .before
 
-first-passed : (s : tie.Else1) → let a = first-start s .args in
-    scoredTo (a .t1 .states) (resultAt (a .t1) (a .row) .members) (a .t1 .rows) ≡ true
-first-passed s = sym (s .before .are-scored .ensures) ∙ not-false _ (s .if1 .left)
+abbrev first-gathered : tie.Else1 → tie.After-members-of
+first-gathered s = s .before .before
 
 abbrev second-first : tie.Else2 → tie.Else1
-second-first s = s .before .before .before .before .before
+second-first s = s .before .before .before
 
-second-passed : (s : tie.Else2) → let a = first-start (second-first s) .args in
-    weightTo (a .t1 .weights) (resultAt (a .t1) (a .row) .members) (a .t1 .rows) ≡ resultAt (a .t1) (a .row) .best
-second-passed s = sym (s .before .weight-of .ensures) ∙ same-bits (search needs) (search needs) (s .if2 .left)
+second-passed : (s : tie.Else2) → let held = first-gathered (second-first s) in let a = gathered-start held .args in
+    held .members-of .result .weight ≡ resultAt (a .t1) (a .row) .best
+second-passed s = same-bits (search needs) (search needs) (s .if2 .left)
 
 -- ---- the needs
 returns : tie.Need-returns
 returns c =
-    let start = c .before .before .before .before .before .before .before in
-    c .not-drawn .ensures ∙ found-unscored (start .pre) (sym (c .before .before .are-scored .ensures) ∙ not-true _ (c .before .if1 .taken))
+    let held = c .before .before .before in
+    c .not-drawn .ensures ∙ found-unscored (gathered-start held .pre) (held .members-of .ensures) (not-true _ (c .before .if1 .taken))
 
 returns-2 : tie.Need-returns-2
 returns-2 c =
-    let first = c .before .before .before .before .before .before in
-    c .not-drawn2 .ensures ∙ found-other (first-start first .pre) (first-passed first)
-    (λ e. c .before .if2 .taken (ap (ofZ w64) (c .before .before .weight-of .ensures ∙ e)))
+    let first = c .before .before .before .before in
+    let held = first-gathered first in
+    c .not-drawn2 .ensures
+    ∙ found-other (gathered-start held .pre) (held .members-of .ensures) (not-false _ (first .if1 .left))
+    (λ e. c .before .if2 .taken (ap (ofZ w64) e))
 
 array-share-prefix-clusters : tie.Need-array-share-prefix-clusters
-array-share-prefix-clusters c = gathered-fits (c .before .members-of .ensures)
+array-share-prefix-clusters c = gathered-fits (first-gathered (second-first (c .before)) .members-of .ensures)
 
 slice-aggregate-is-tree : tie.Need-slice-aggregate-is-tree
-slice-aggregate-is-tree c = gathered-count (c .before .before .members-of .ensures)
+slice-aggregate-is-tree c = gathered-count (first-gathered (second-first (c .before .before)) .members-of .ensures)
 
 returns-3 : tie.Need-returns-3
 returns-3 c =
     let tested = c .before .before in
-    let held = tested .before .before .before in
-    let second = held .before .before .before in
+    let second = tested .before .before .before in
     let first = second-first second in
-    let a = first-start first .args in
-    let members = gathered-front (held .members-of .ensures) in
-    let no = ap (isTree (narrow .taxa) (a .t1 .degree) (a .top)) (sym members) ∙ sym (tested .is-tree .ensures) ∙ not-true _ (c .before .if3 .taken) in
-    c .not-drawn3 .ensures ∙ found-no-tree (first-start first .pre) (first-passed first) (second-passed second) no
+    let held = first-gathered first in
+    c .not-drawn3 .ensures
+    ∙ found-no-tree (gathered-start held .pre) (held .members-of .ensures) (not-false _ (first .if1 .left)) (second-passed second)
+    (failed (tested .is-tree .ensures) (c .before .if3 .taken))
 
 returns-4 : tie.Need-returns-4
 returns-4 c =
     let tested = c .before in
-    let held = tested .before .before .before in
-    let second = held .before .before .before in
+    let second = tested .before .before .before in
     let first = second-first second in
-    let a = first-start first .args in
-    let h = held .members-of .ensures in
-    let yes = ap (isTree (narrow .taxa) (a .t1 .degree) (a .top)) (sym (gathered-front h)) ∙ sym (tested .is-tree .ensures) ∙ not-false _ (c .if3 .left) in
-    ap₂ (λ (l : List ℕ) (n : ℕ). outcomeOf (Done 0) (record { row = a .row; clusters = l; size = n })) (h .clusters) (h .size)
-    ∙ found-tree (first-start first .pre) (first-passed first) (second-passed second) yes
+    let held = first-gathered first in
+    found-tree (gathered-start held .pre) (held .members-of .ensures) (not-false _ (first .if1 .left)) (second-passed second)
+    (passed (tested .is-tree .ensures) (c .if3 .left))
 
 pub drawn-members-spec : {M : Type 1} → statement M
 drawn-members-spec =
@@ -89,9 +79,7 @@ drawn-members-spec =
     (λ c. search needs)
     (λ c. search needs)
     (λ c κs. search needs)
-    (λ c κs. search needs)
     returns-2
-    (λ c κs. search needs)
     array-share-prefix-clusters
     slice-aggregate-is-tree
     (λ c κs. search needs)

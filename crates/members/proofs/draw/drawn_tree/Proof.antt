@@ -4,9 +4,8 @@ use mathlib.Core.Bool.{true}
 use Prim.Native.Nat.{_≤_}
 use native.Mathlib.Omega.{arith}
 use borrow.Author.Needs.{needs}
-use borrow.Author.Tests.{not-true, not-false}
 use Rattle.laws.specs.Limits.{narrow, rowCap}
-use Rattle.laws.proofs.Tests.{true-T}
+use Rattle.laws.proofs.Tests.{true-T, passed, failed}
 use Rattle.laws.proofs.Width.{narrow-facts}
 use Rattle.kept.specs.Fit.{isFit}
 use Rattle.kept.specs.Rows.{placeOf}
@@ -21,7 +20,7 @@ abbrev looked-start : tie.After-place-of → tie.Start
 looked-start s = s .before .before .before .before
 
 is-fit-there : (s : tie.After-place-of) → isFit narrow (looked-start s .args .t1) ≡ true
-is-fit-there s = let fit = s .before .before in sym (fit .before .is-fit .ensures) ∙ not-false _ (fit .if1 .left)
+is-fit-there s = let fit = s .before .before in passed (fit .before .is-fit .ensures) (fit .if1 .left)
 
 rows-capped : (s : tie.After-place-of) → looked-start s .args .t1 .rows ≤ rowCap
 rows-capped s = isFit→ narrow narrow-facts (looked-start s .args .t1) (true-T (is-fit-there s)) .capped
@@ -32,7 +31,7 @@ row-is s = s .place-of .ensures ∙ ap (placeOf (looked-start s .args .t1)) (s .
 -- ---- the needs
 returns : tie.Need-returns
 returns c =
-    let no = sym (c .before .before .is-fit .ensures) ∙ not-true _ (c .before .if1 .taken) in
+    let no = failed (c .before .before .is-fit .ensures) (c .before .if1 .taken) in
     c .not-drawn .ensures ∙ sym (drawn-unfit narrow (c .before .before .before .args .t1) no)
 
 returns-2 : tie.Need-returns-2

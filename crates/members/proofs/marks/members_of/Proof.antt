@@ -1,53 +1,56 @@
--- `members::marks::members_of` meets its contract. The invariant: the clusters of the marked ones of the first i rows are gathered. The
--- measure is the rows left. Assumes nothing.
+-- `members::marks::members_of` meets its contract. The invariant: the marked ones of the first i rows are gathered. The measure is the rows
+-- left. Assumes nothing.
 use mathlib.Core.Path.{_≡_, sym, _∙_}
 use mathlib.Core.Logic.{⊎-elim}
-use Prim.Native.Nat.{_+_, _-_, _*_, _≤_, _<_}
+use Prim.Native.Nat.{_+_, _-_, _*_, _≤_}
 use native.Mathlib.Omega.{arith}
+use borrow.Author.Needs.{needs}
 use denote.Ref.{now}
-use Rattle.laws.specs.Limits.{rowCap, wordValues}
+use lib.IntN.{pos}
+use lib.ListN.{getD}
+use Rattle.laws.specs.Limits.{wordValues}
+use Rattle.laws.proofs.Tests.{passed, failed}
 use Rattle.members.specs.Gathered.{Gathered}
-use Rattle.members.proofs.Laws.Marked.{length-marked-le}
-use Rattle.members.proofs.Laws.Gathered.{gathered-none, gathered-takes, gathered-skips}
+use Rattle.members.proofs.Laws.Weighed.{cast-fits}
+use Rattle.members.proofs.Laws.Gathered.{gathered-none, gathered-skips, gathered-takes, added-fits}
 use Rattle.members.proofs.marks.members_of.Statement.{statement}
 use Rattle.members.proofs.marks.members_of.Tie as tie
 
 abbrev Inv-loop : tie.InvT-loop
-Inv-loop clusters low high rows members₀ i₀ members i = (i ≤ rows) × Gathered clusters (low + wordValues * high) i members
+Inv-loop clusters weights states low high rows members₀ i₀ members i =
+    (i ≤ rows) × Gathered clusters weights states (low + wordValues * high) i members
 
 abbrev μ-loop : tie.MeasureT-loop
-μ-loop clusters low high rows members₀ i₀ members i = rows - i
+μ-loop clusters weights states low high rows members₀ i₀ members i = rows - i
 
 loop-holds : tie.Need-loop-holds Inv-loop μ-loop
 loop-holds c = (omega arith, gathered-none)
 
--- there is room for one more
-room : (c : tie.Then1 Inv-loop μ-loop) → c .before .before .before .loop .members .size < rowCap
-room c =
-    let at-loop = c .before .before .before in
-    let a = at-loop .before .args in
-    omega (arith, at-loop .loop .inv .1 .size, length-marked-le (a .low + wordValues * a .high) (at-loop .loop .i))
+cast-members : tie.Need-cast-members Inv-loop μ-loop
+cast-members c =
+    let at-loop = c .before .before .before .before .before in
+    cast-fits (getD (now (at-loop .before .args .weights)) (at-loop .loop .i) (pos 0)) (c .members2 .given)
 
-mul-members-2 : tie.Need-mul-members-2 Inv-loop μ-loop
-mul-members-2 c = omega (arith, room (c .before))
-
-element-write-members : tie.Need-element-write-members Inv-loop μ-loop
-element-write-members c = room (c .before)
-
-add-members : tie.Need-add-members Inv-loop μ-loop
-add-members c = omega (arith, room (c .before))
+add-members-2 : tie.Need-add-members-2 Inv-loop μ-loop
+add-members-2 c =
+    let marked = c .before .before .before in
+    let at-loop = marked .before .before .before in
+    let mark = sym (marked .before .is-marked .ensures) ∙ marked .if1 .taken in
+    added-fits (at-loop .loop .inv .1) (omega arith) mark (c .before .members2 .given)
 
 loop-again : tie.Need-loop-again Inv-loop μ-loop
 loop-again c =
     let at-loop = c .before .before .before in
     let a = at-loop .before .args in
-    let cs = now (a .clusters) in
-    let m = a .low + wordValues * a .high in
-    let i = at-loop .loop .i in
-    let h = at-loop .loop .inv .1 in
+    let g = at-loop .loop .inv .1 in
     let mark = sym (c .before .is-marked .ensures) in
-    let step : Gathered cs m (i + 1) (c .if1 .members) =
-    ⊎-elim (λ w. rw (w .2) (gathered-takes h (omega arith) (mark ∙ w .0 .taken))) (λ w. rw (w .1) (gathered-skips h (mark ∙ w .0 .left)))
+    let step : Gathered (now (a .clusters)) (now (a .weights)) (now (a .states)) (a .low + wordValues * a .high) (at-loop .loop .i + 1)
+    (c .if1 .members) =
+    ⊎-elim
+    (λ w. rw (w .7) (gathered-takes g (omega arith) (mark ∙ w .0 .taken) (w .2 .given) (failed (w .5 .ensures) (w .6 .taken))))
+    (⊎-elim
+    (λ w. rw (w .7) (gathered-takes g (omega arith) (mark ∙ w .0 .taken) (w .2 .given) (passed (w .5 .ensures) (w .6 .left))))
+    (λ w. rw (w .1) (gathered-skips g (mark ∙ w .0 .left))))
     (c .if1 .came)
     in
     (omega arith, step)
@@ -68,9 +71,15 @@ members-of-spec =
     (λ c κs. omega arith)
     (λ c. omega arith)
     (λ c. omega arith)
-    mul-members-2
-    element-write-members
-    add-members
+    (λ c. omega arith)
+    (λ c. omega arith)
+    (λ c. omega arith)
+    (λ c. omega arith)
+    (λ c. omega arith)
+    cast-members
+    add-members-2
+    (λ c. omega arith)
+    (λ c κs. search needs)
     (λ c. omega arith)
     (λ c. omega arith)
     loop-again

@@ -10,6 +10,7 @@ use borrow.Author.Tests.{not-true, not-false, le-leb, lt-leb}
 use lib.Dec.{leb}
 use lib.ListN.{length}
 use Rattle.laws.specs.Cluster.{single}
+use Rattle.laws.proofs.Tests.{failed}
 use Rattle.trees.specs.Tree.{children}
 use Rattle.members.proofs.Laws.Scan.{EveryFrom, every-more, every-stop, from-none, from-end}
 use Rattle.members.proofs.nesting.are_few.Statement.{statement}
@@ -25,7 +26,7 @@ returns : tie.Need-returns Inv-loop μ-loop
 returns c =
     let first = c .before .before in
     let turn = first .before .before .before in
-    let no = sym (first .before .is-single .ensures) ∙ not-true _ (first .if1 .taken) in
+    let no = failed (first .before .is-single .ensures) (first .if1 .taken) in
     let many = lt-leb _ _ (rw (c .before .child-count .ensures) at (c .if2 .taken)) in
     every-stop (turn .before .loop .inv) (turn .loop-test .taken) (ap₂ _||_ no many)
 

@@ -1,14 +1,14 @@
 -- `members::nesting::are_nested` meets its contract. The invariant: all are inside and nest with all where those from place i on are and
 -- do. The measure is the places left. Assumes nothing.
-use mathlib.Core.Path.{_≡_, refl, sym, ap₂, _∙_}
+use mathlib.Core.Path.{_≡_, refl, ap₂}
 use mathlib.Core.Bool.{Bool, false, _&&_}
 use Prim.Native.Nat.{ℕ, _-_}
 use native.Mathlib.Omega.{arith}
 use borrow.Author.Needs.{needs}
-use borrow.Author.Tests.{not-true, not-false}
 use lib.ListN.{length}
 use Rattle.laws.specs.Cluster.{inside, nested}
 use Rattle.laws.specs.Lists.{every}
+use Rattle.laws.proofs.Tests.{passed, failed}
 use Rattle.members.proofs.Laws.Scan.{EveryFrom, every-more, every-stop, from-none, from-end}
 use Rattle.members.proofs.nesting.are_nested.Statement.{statement}
 use Rattle.members.proofs.nesting.are_nested.Tie as tie
@@ -26,23 +26,23 @@ first-fails a b e = rw e refl
 returns : tie.Need-returns Inv-loop μ-loop
 returns c =
     let turn = c .before .before .before in
-    let outside = sym (c .before .is-inside .ensures) ∙ not-true _ (c .if1 .taken) in
+    let outside = failed (c .before .is-inside .ensures) (c .if1 .taken) in
     every-stop (turn .before .loop .inv) (turn .loop-test .taken) (first-fails _ _ outside)
 
 returns-2 : tie.Need-returns-2 Inv-loop μ-loop
 returns-2 c =
     let first = c .before .before in
     let turn = first .before .before .before in
-    let within = sym (first .before .is-inside .ensures) ∙ not-false _ (first .if1 .left) in
-    let crosses = sym (c .before .nests .ensures) ∙ not-true _ (c .if2 .taken) in
+    let within = passed (first .before .is-inside .ensures) (first .if1 .left) in
+    let crosses = failed (c .before .nests .ensures) (c .if2 .taken) in
     every-stop (turn .before .loop .inv) (turn .loop-test .taken) (ap₂ _&&_ within crosses)
 
 loop-again : tie.Need-loop-again Inv-loop μ-loop
 loop-again c =
     let first = c .before .before in
     let turn = first .before .before .before in
-    let within = sym (first .before .is-inside .ensures) ∙ not-false _ (first .if1 .left) in
-    let nests = sym (c .before .nests .ensures) ∙ not-false _ (c .if2 .left) in
+    let within = passed (first .before .is-inside .ensures) (first .if1 .left) in
+    let nests = passed (c .before .nests .ensures) (c .if2 .left) in
     every-more (turn .before .loop .inv) (turn .loop-test .taken) (ap₂ _&&_ within nests)
 
 returns-3 : tie.Need-returns-3 Inv-loop μ-loop

@@ -6,10 +6,10 @@ use mathlib.Core.Bool.{Bool, not, _&&_}
 use Prim.Native.Nat.{ℕ, _-_}
 use native.Mathlib.Omega.{arith}
 use borrow.Author.Needs.{needs}
-use borrow.Author.Tests.{not-true, not-false}
 use lib.ListN.{length}
 use Rattle.laws.specs.Cluster.{strict}
 use Rattle.laws.specs.Lists.{any}
+use Rattle.laws.proofs.Tests.{passed, failed}
 use Rattle.members.proofs.Laws.Scan.{CountFrom, count-none, count-le, count-more, count-same, count-end}
 use Rattle.members.proofs.nesting.child_count.Statement.{statement}
 use Rattle.members.proofs.nesting.child_count.Tie as tie
@@ -33,9 +33,9 @@ loop-again c =
     let below = sym (c .before .is-strict .ensures) in
     let pair : Bool → Bool → Bool = λ a b. a && not b in
     ⊎-elim
-    (λ w. rw (w .3) (count-more s h (ap₂ pair (below ∙ w .0 .taken) (sym (w .1 .ensures) ∙ not-true _ (w .2 .taken)))))
+    (λ w. rw (w .3) (count-more s h (ap₂ pair (below ∙ w .0 .taken) (failed (w .1 .ensures) (w .2 .taken)))))
     (⊎-elim
-    (λ w. rw (w .3) (count-same s h (ap₂ pair (below ∙ w .0 .taken) (sym (w .1 .ensures) ∙ not-false _ (w .2 .left)))))
+    (λ w. rw (w .3) (count-same s h (ap₂ pair (below ∙ w .0 .taken) (passed (w .1 .ensures) (w .2 .left)))))
     (λ w. rw (w .1) (count-same s h (rw (below ∙ w .0 .left)))))
     (c .if1 .came)
 

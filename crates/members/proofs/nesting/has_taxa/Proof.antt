@@ -6,9 +6,9 @@ use mathlib.Core.Bool.{Bool, true, not, _||_}
 use Prim.Native.Nat.{ℕ, _-_, _*_, _%_, _^_, _≤_}
 use native.Mathlib.Omega.{arith}
 use borrow.Author.Needs.{needs}
-use borrow.Author.Tests.{not-true, not-false}
 use denote.Ref.{now}
 use Rattle.laws.specs.Limits.{narrow, wordValues}
+use Rattle.laws.proofs.Tests.{passed, failed}
 use Rattle.members.proofs.Laws.TreeTest.{hasTaxon, hasTaxa, taxon-shift, taxa-more, taxa-stop}
 use Rattle.members.proofs.nesting.has_taxa.Statement.{statement}
 use Rattle.members.proofs.nesting.has_taxa.Tie as tie
@@ -28,7 +28,7 @@ returns c =
     let turn = first .before .before in
     let a = turn .before .before .before .args in
     let yes = sym (first .before .is-inside .ensures) ∙ first .if1 .taken in
-    let no = sym (c .before .has .ensures) ∙ not-true _ (c .if2 .taken) in
+    let no = failed (c .before .has .ensures) (c .if2 .taken) in
     let i = turn .before .loop .taxon in
     let below = turn .loop-test .taken in
     sym (taxa-stop (hasTaxon (a .c) (now (a .xs))) (narrow .taxa) i (taxon-shift i below) below (ap₂ (λ (s t : Bool). not s || t) yes no))
@@ -42,7 +42,7 @@ loop-again c =
     let more = taxa-more (hasTaxon (a .c) (now (a .xs))) i (taxon-shift i (turn .loop-test .taken)) (turn .before .loop .inv .1) in
     let both : Bool → Bool → Bool = λ s t. not s || t in
     let passes : hasTaxon (a .c) (now (a .xs)) (1 * 2 ^ i % wordValues) ≡ true =
-    ⊎-elim (λ w. ap₂ both (mine ∙ w .0 .taken) (sym (w .1 .ensures) ∙ not-false _ (w .2 .left))) (λ w. rw (mine ∙ w .left)) (c .if1 .came)
+    ⊎-elim (λ w. ap₂ both (mine ∙ w .0 .taken) (passed (w .1 .ensures) (w .2 .left))) (λ w. rw (mine ∙ w .left)) (c .if1 .came)
     in
     (omega arith, more passes)
 

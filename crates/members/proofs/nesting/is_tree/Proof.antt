@@ -2,10 +2,10 @@
 use mathlib.Core.Path.{_≡_, sym, _∙_}
 use mathlib.Core.Bool.{true}
 use borrow.Author.Needs.{needs}
-use borrow.Author.Tests.{not-true, not-false}
 use denote.Ref.{now}
 use Rattle.laws.specs.Limits.{narrow}
 use Rattle.laws.specs.Lists.{elem}
+use Rattle.laws.proofs.Tests.{passed, failed}
 use Rattle.members.proofs.Laws.TreeTest.{areNested, hasTaxa, isTree-nested, isTree-top, isTree-taxa, isTree-few}
 use Rattle.members.proofs.nesting.is_tree.Statement.{statement}
 use Rattle.members.proofs.nesting.is_tree.Tie as tie
@@ -15,19 +15,19 @@ abbrev first-start : tie.Else1 → tie.Start
 first-start s = s .before .before .before
 
 first-passed : (s : tie.Else1) → areNested (first-start s .args .top) (now (first-start s .args .clusters)) ≡ true
-first-passed s = sym (s .before .are-nested .ensures) ∙ not-false _ (s .if1 .left)
+first-passed s = passed (s .before .are-nested .ensures) (s .if1 .left)
 
 abbrev second-start : tie.Else2 → tie.Start
 second-start s = first-start (s .before .before)
 
 second-passed : (s : tie.Else2) → elem (second-start s .args .top) (now (second-start s .args .clusters)) ≡ true
-second-passed s = sym (s .before .has .ensures) ∙ not-false _ (s .if2 .left)
+second-passed s = passed (s .before .has .ensures) (s .if2 .left)
 
 abbrev third-start : tie.Else3 → tie.Start
 third-start s = second-start (s .before .before)
 
 third-passed : (s : tie.Else3) → hasTaxa (narrow .taxa) (third-start s .args .top) (now (third-start s .args .clusters)) ≡ true
-third-passed s = sym (s .before .has-taxa .ensures) ∙ not-false _ (s .if3 .left)
+third-passed s = passed (s .before .has-taxa .ensures) (s .if3 .left)
 
 -- ---- the needs
 are-nested-requires : tie.Need-are-nested-requires
@@ -36,14 +36,14 @@ are-nested-requires c κs = search needs
 returns : tie.Need-returns
 returns c =
     let a = c .before .before .before .args in
-    let no = sym (c .before .are-nested .ensures) ∙ not-true _ (c .if1 .taken) in
+    let no = failed (c .before .are-nested .ensures) (c .if1 .taken) in
     sym (isTree-nested (narrow .taxa) (a .degree) (a .top) (now (a .clusters)) no)
 
 returns-2 : tie.Need-returns-2
 returns-2 c =
     let first = c .before .before in
     let a = first-start first .args in
-    let no = sym (c .before .has .ensures) ∙ not-true _ (c .if2 .taken) in
+    let no = failed (c .before .has .ensures) (c .if2 .taken) in
     sym (isTree-top (narrow .taxa) (a .degree) (a .top) (now (a .clusters)) (first-passed first) no)
 
 returns-3 : tie.Need-returns-3
@@ -51,7 +51,7 @@ returns-3 c =
     let second = c .before .before in
     let first = second .before .before in
     let a = first-start first .args in
-    let no = sym (c .before .has-taxa .ensures) ∙ not-true _ (c .if3 .taken) in
+    let no = failed (c .before .has-taxa .ensures) (c .if3 .taken) in
     sym (isTree-taxa (narrow .taxa) (a .degree) (a .top) (now (a .clusters)) (first-passed first) (second-passed second) no)
 
 returns-4 : tie.Need-returns-4
@@ -61,7 +61,8 @@ returns-4 c =
     let first = second .before .before in
     let a = first-start first .args in
     let few = isTree-few (narrow .taxa) (a .degree) (a .top) (now (a .clusters)) in
-    rw (c .before .most-children .ensures) at (c .are-few .ensures) ∙ sym (few (first-passed first) (second-passed second) (third-passed third))
+    rw (c .before .most-children .ensures) at (c .are-few .ensures)
+    ∙ sym (few (first-passed first) (second-passed second) (third-passed third))
 
 pub is-tree-spec : {M : Type 1} → statement M
 is-tree-spec =

@@ -1,12 +1,11 @@
 -- `members::nesting::nests` meets its contract. The invariant: all are nested in or apart from it where all from place i on are.
 -- The measure is the places left. Assumes nothing.
-use mathlib.Core.Path.{sym, _∙_}
 use Prim.Native.Nat.{ℕ, _-_}
 use native.Mathlib.Omega.{arith}
 use borrow.Author.Needs.{needs}
-use borrow.Author.Tests.{not-true, not-false}
 use lib.ListN.{length}
 use Rattle.laws.specs.Cluster.{nested}
+use Rattle.laws.proofs.Tests.{passed, failed}
 use Rattle.members.proofs.Laws.Scan.{EveryFrom, every-more, every-stop, from-none, from-end}
 use Rattle.members.proofs.nesting.nests.Statement.{statement}
 use Rattle.members.proofs.nesting.nests.Tie as tie
@@ -20,12 +19,12 @@ abbrev μ-loop : tie.MeasureT-loop
 returns : tie.Need-returns Inv-loop μ-loop
 returns c =
     let turn = c .before .before .before in
-    every-stop (turn .before .loop .inv) (turn .loop-test .taken) (sym (c .before .is-nested .ensures) ∙ not-true _ (c .if1 .taken))
+    every-stop (turn .before .loop .inv) (turn .loop-test .taken) (failed (c .before .is-nested .ensures) (c .if1 .taken))
 
 loop-again : tie.Need-loop-again Inv-loop μ-loop
 loop-again c =
     let turn = c .before .before .before in
-    every-more (turn .before .loop .inv) (turn .loop-test .taken) (sym (c .before .is-nested .ensures) ∙ not-false _ (c .if1 .left))
+    every-more (turn .before .loop .inv) (turn .loop-test .taken) (passed (c .before .is-nested .ensures) (c .if1 .left))
 
 returns-2 : tie.Need-returns-2 Inv-loop μ-loop
 returns-2 c = from-end (c .before .loop .inv) (c .loop-test .left)

@@ -53,7 +53,8 @@ listed c =
 room : (c : tie.Else3) → c .before .before .before .before .place-of .result < 128
 room c = let at = c .before .before in omega (arith, at .if2 .left, capped (fits-at (at .before)))
 
-found : (c : tie.Else2) → getD (start (c .before) .args .given .clusters) (c .before .before .place-of .result) 0 ≡ start (c .before) .args .cluster
+found : (c : tie.Else2)
+    → let s = start (c .before) in getD (s .args .given .clusters) (c .before .before .place-of .result) 0 ≡ s .args .cluster
 found c =
     let s = start (c .before) in
     row-found (s .args .given) (capped (fits-at (c .before))) (s .args .cluster) _ (c .before .before .place-of .ensures) (c .if2 .left)

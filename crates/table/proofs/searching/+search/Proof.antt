@@ -10,8 +10,8 @@ use Rattle.laws.proofs.Tests.{true-T}
 use Rattle.table.proofs.Tuples.Searchable.{start-past}
 use Rattle.table.proofs.Tuples.SearchRow.{inner-asks, under-asks}
 use Rattle.table.proofs.Tuples.Running.{running-all, running-ended, running-outside, running-unscored, running-added}
-use Rattle.table.proofs.searching.+search.Proof.Places.{μ-search, search-at, claims, Inv, μ, reached, loopStart, looked, tested, turn}
-use Rattle.table.proofs.searching.+search.Proof.Places.{partRow, asked, place, start-is, two, below, led}
+use Rattle.table.proofs.searching.+search.Proof.Places.{μ-search, search-at, claims, Inv, μ, reached, loopStart, looked}
+use Rattle.table.proofs.searching.+search.Proof.Places.{tested, turn, partRow, asked, place, start-is, two, below, led}
 use Rattle.table.proofs.searching.+search.Proof.Places.{next-small, adds-whole, adds-part, asks}
 use Rattle.table.proofs.searching.search.Reads as search′
 use Rattle.table.proofs.searching.+search.Lts-search as search-lts

@@ -84,7 +84,8 @@ loop-again c =
     let from-best = w .19 .given .1 .1 .1 in
     let best-fits : SFits w64 (call .result .best) = record { sfits = from-best .0 .1 } in
     partly-store narrow-facts (s .pre) (at-loop .loop .inv) (at-loop .before .put-starts .ensures) (inside .loop-test .taken)
-    (sym test ∙ w .0 .taken) (call .ensures ∙ ap (λ (z : ℤ). workedTally narrow (columnsOf t) z i (s .args .given .degree)) (toZ-ofZ (weight-fits inside)))
+    (sym test ∙ w .0 .taken)
+    (call .ensures ∙ ap (λ (z : ℤ). workedTally narrow (columnsOf t) z i (s .args .given .degree)) (toZ-ofZ (weight-fits inside)))
     (toZ-ofZ best-fits) stored)
     (λ w.
     partly-skip narrow-facts (s .pre) (at-loop .loop .inv) (inside .loop-test .taken) (sym test ∙ w .0 .left) (w .1))
