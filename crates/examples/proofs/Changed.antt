@@ -1,43 +1,24 @@
 -- Which rows differ between two tables: a test, and what it shows.
---     isSame→                   two integers that pass the test are equal
 --     isSameRow, isSameEntry    two rows hold the same: as listed, and with their results
---     isChanged t u cs n        of the first n rows, exactly those of the clusters cs differ
+--     isChanged t u cs          of the rows of t, exactly those of the clusters cs differ
 --     changed→                  so it is
 -- Assumes nothing.
 use mathlib.Core.Path.{_≡_, refl, sym, subst}
-use mathlib.Core.Logic.{_↔_}
 use mathlib.Core.Bool.{Bool, true, false, not, cond, _&&_}
 use mathlib.Core.List.{List}
-use Prim.Native.Nat.{ℕ, zero, suc, _≤_, _<_}
-use native.Mathlib.Decide.{decLe}
-use native.Mathlib.Omega.{arith}
-use lib.Dec.{T, eqb, eqb→eq, eqb-refl, T-not}
-use lib.IntN.{ℤ}
-use lib.Signed.{ltZ}
-use Rattle.laws.specs.Lists.{elem}
+use Prim.Native.Nat.{ℕ}
+use lib.Dec.{T, eqb, eqb→eq, eqb-refl}
+use Rattle.laws.specs.Lists.{every, elem, places}
 use Rattle.laws.specs.Row.{Row}
-use Rattle.laws.proofs.Integers.{Tri, tri}
+use Rattle.laws.proofs.Down.{every→down}
 use Rattle.laws.proofs.Tests.{T-and, and-T}
 use Rattle.trees.specs.Rows.{Entry}
 use Rattle.trees.specs.Result.{Result}
 use Rattle.kept.specs.declared.table.Table.{Table}
 use Rattle.kept.specs.View.{rowAt, entryAt}
-use Rattle.drawing.specs.Draw.{isSame}
-use Rattle.drawing.proofs.LeafTree.{same-weights}
+use Rattle.members.specs.Marked.{isSame}
+use Rattle.members.proofs.Laws.Draw.{isSame-refl, isSame→}
 use Rattle.examples.specs.Right.{Changes}
-
--- ---- integers
-
-pub isSame→ : (a b : ℤ) → T (isSame a b) → a ≡ b
-isSame→ a b h = go (tri a b)
-  where
-    q : T (not (ltZ a b)) × T (not (ltZ b a))
-    q = T-and (not (ltZ a b)) (not (ltZ b a)) h
-
-    go : Tri a b → a ≡ b
-    go (Tri.less k) = absurd (T-not (ltZ a b) (q .0) k)
-    go (Tri.same e) = e
-    go (Tri.more k) = absurd (T-not (ltZ b a) (q .1) k)
 
 -- ---- rows
 
@@ -91,11 +72,11 @@ entry-refl e =
     let r = e .row in
     let v = e .val in
     let row = →three (eqb (r .cluster) (r .cluster)) (isSame (r .weight) (r .weight)) (eqb (r .state) (r .state))
-    (eqb-refl (r .cluster)) (same-weights (r .weight) (r .weight) refl) (eqb-refl (r .state)) in
+    (eqb-refl (r .cluster)) (isSame-refl (r .weight)) (eqb-refl (r .state)) in
     let counts = →three (eqb (v .length) (v .length)) (eqb (v .count) (v .count)) (eqb (v .mark) (v .mark))
     (eqb-refl (v .length)) (eqb-refl (v .count)) (eqb-refl (v .mark)) in
     let best = and-T (isSame (v .best) (v .best)) (eqb (v .members) (v .members))
-    (same-weights (v .best) (v .best) refl) (eqb-refl (v .members)) in
+    (isSame-refl (v .best)) (eqb-refl (v .members)) in
     and-T (isSameRow r r) (isSameCount v v && isSameBest v v) row (and-T (isSameCount v v) (isSameBest v v) counts best)
 
 -- ---- all rows
@@ -109,35 +90,17 @@ agree→ true false h = absurd h
 agree→ false true h = absurd h
 agree→ false false h = refl
 
-abbrev pub isChanged : Table → Table → List ℕ → ℕ → Bool
-isChanged t u cs zero = true
-isChanged t u cs (suc i) =
-    isChanged t u cs i && agree (isSameEntry (entryAt t i) (entryAt u i)) (not (elem (rowAt t i .cluster) cs))
-
 module _ (t u : Table) (cs : List ℕ) where
-  abbrev differs : ℕ → Bool
-  differs i = agree (isSameEntry (entryAt t i) (entryAt u i)) (not (elem (rowAt t i .cluster) cs))
+  abbrev isRight : ℕ → Bool
+  isRight i = agree (isSameEntry (entryAt t i) (entryAt u i)) (not (elem (rowAt t i .cluster) cs))
 
-  abbrev Stays : ℕ → Type 0
-  Stays i = (entryAt t i ≡ entryAt u i) ↔ T (not (elem (rowAt t i .cluster) cs))
+  abbrev pub isChanged : Bool
+  isChanged = every isRight (places (t .rows))
 
-  stays : (i : ℕ) → T (differs i) → Stays i
-  stays i h =
-      let e = agree→ (isSameEntry (entryAt t i) (entryAt u i)) (not (elem (rowAt t i .cluster) cs)) h in (
+  pub changed→ : T isChanged → Changes t u cs
+  changed→ h i l =
+      let at = every→down isRight (λ (i : ℕ). i) (t .rows) h i l in
+      let e = agree→ (isSameEntry (entryAt t i) (entryAt u i)) (not (elem (rowAt t i .cluster) cs)) at in (
         λ p. subst T e (subst (λ (f : Entry Result). T (isSameEntry (entryAt t i) f)) p (entry-refl (entryAt t i))),
         λ k. entry→ (entryAt t i) (entryAt u i) (subst T (sym e) k),
       )
-
-  stays-to : (n : ℕ) → T (isChanged t u cs n) → (i : ℕ) → i < n → Stays i
-  stays-to zero h i l = absurd (omega arith)
-  stays-to (suc n) h i l = go (decLe n i) (stays-to n (q .0) i)
-    where
-      q : T (isChanged t u cs n) × T (differs n)
-      q = T-and (isChanged t u cs n) (differs n) h
-
-      go : Dec (n ≤ i) → (i < n → Stays i) → Stays i
-      go (yes k) ih = let e : n ≡ i = omega arith in subst Stays e (stays n (q .1))
-      go (no k) ih = ih (omega arith)
-
-  pub changed→ : T (isChanged t u cs (t .rows)) → Changes t u cs
-  changed→ h = stays-to (t .rows) h

@@ -11,23 +11,23 @@ use mathlib.Core.Option.{some}
 use mathlib.Core.List.{List, [], _∷_, _++_, map}
 use Prim.Native.Nat.{ℕ}
 use lib.IntN.{pos, negsuc}
-use Rattle.cluster.specs.declared.record.Record.{Record}
-use Rattle.examples.specs.Case.{Drawn, drawn, Case, score, unscored, refusedFrom, drawnFrom, toldTree}
+use Rattle.laws.specs.Row.{Row}
+use Rattle.examples.specs.Case.{ToldTree, drawn, Case, score, noScore, refusedFrom, drawnFrom, tree}
 
-abbrev pub houseWith : Record → Record → List Record
+abbrev pub houseWith : Row → Row → List Row
 houseWith a b = score 1 (pos 0) ∷ score 2 (pos 0) ∷ score 4 (pos 0) ∷ a ∷ b ∷ score 7 (pos 1) ∷ []
 
-abbrev pub house : List Record
+abbrev pub house : List Row
 house = houseWith (score 3 (pos 4)) (score 6 (pos 4))
 
-abbrev pub leftOpen : Record → List Record
-leftOpen a = houseWith a (unscored 6)
+abbrev pub leftOpen : Row → List Row
+leftOpen a = houseWith a (noScore 6)
 
-abbrev pub fifteen : List Record
+abbrev pub fifteen : List Row
 fifteen =
     map (λ (c : ℕ). score c (pos 0)) (1 ∷ 2 ∷ 3 ∷ 4 ∷ 5 ∷ 6 ∷ 7 ∷ 8 ∷ 9 ∷ 10 ∷ 11 ∷ 12 ∷ 13 ∷ 14 ∷ 15 ∷ [])
 
-abbrev pub ofFifteen : ℕ → ℕ → Drawn
+abbrev pub ofFifteen : ℕ → ℕ → ToldTree
 ofFifteen n m = record {
   count = n;
   weight = pos 0;
@@ -39,25 +39,25 @@ ofFifteen n m = record {
 abbrev pub cases : List Case
 cases =
     -- P1, P2, and the third line that `besttree` prints
-    drawnFrom house 3 (toldTree 2 (pos 5) (1 ∷ 2 ∷ 4 ∷ 6 ∷ 7 ∷ []) "(0,(1,2));")
-    ∷ drawnFrom house 4 (toldTree 3 (pos 5) (1 ∷ 2 ∷ 4 ∷ 6 ∷ 7 ∷ []) "(0,(1,2));")
-    ∷ drawnFrom house 5 (toldTree 3 (pos 5) (1 ∷ 2 ∷ 4 ∷ 6 ∷ 7 ∷ []) "(0,(1,2));")
+    drawnFrom house 3 (tree 2 (pos 5) (1 ∷ 2 ∷ 4 ∷ 6 ∷ 7 ∷ []) "(0,(1,2));")
+    ∷ drawnFrom house 4 (tree 3 (pos 5) (1 ∷ 2 ∷ 4 ∷ 6 ∷ 7 ∷ []) "(0,(1,2));")
+    ∷ drawnFrom house 5 (tree 3 (pos 5) (1 ∷ 2 ∷ 4 ∷ 6 ∷ 7 ∷ []) "(0,(1,2));")
     -- P3
-    ∷ drawnFrom (leftOpen (score 3 (pos 4))) 3 (toldTree 1 (pos 5) (1 ∷ 2 ∷ 3 ∷ 4 ∷ 7 ∷ []) "((0,1),2);")
+    ∷ drawnFrom (leftOpen (score 3 (pos 4))) 3 (tree 1 (pos 5) (1 ∷ 2 ∷ 3 ∷ 4 ∷ 7 ∷ []) "((0,1),2);")
     -- P4, P5: {0,1} at -4, weights -3 and 1
-    ∷ drawnFrom (leftOpen (score 3 (negsuc 3))) 3 (toldTree 1 (negsuc 2) (1 ∷ 2 ∷ 3 ∷ 4 ∷ 7 ∷ []) "((0,1),2);")
-    ∷ drawnFrom (leftOpen (score 3 (negsuc 3))) 4 (toldTree 2 (pos 1) (1 ∷ 2 ∷ 4 ∷ 7 ∷ []) "(0,1,2);")
+    ∷ drawnFrom (leftOpen (score 3 (negsuc 3))) 3 (tree 1 (negsuc 2) (1 ∷ 2 ∷ 3 ∷ 4 ∷ 7 ∷ []) "((0,1),2);")
+    ∷ drawnFrom (leftOpen (score 3 (negsuc 3))) 4 (tree 2 (pos 1) (1 ∷ 2 ∷ 4 ∷ 7 ∷ []) "(0,1,2);")
     -- P6: {5} at -3, and unscored
-    ∷ drawnFrom (score 32 (negsuc 2) ∷ []) 3 (toldTree 1 (negsuc 2) (32 ∷ []) "5;")
-    ∷ drawnFrom (score 32 (negsuc 2) ∷ []) 4 (toldTree 1 (negsuc 2) (32 ∷ []) "5;")
-    ∷ drawnFrom (score 32 (negsuc 2) ∷ []) 5 (toldTree 1 (negsuc 2) (32 ∷ []) "5;")
-    ∷ refusedFrom (unscored 32 ∷ []) 3 7
-    ∷ refusedFrom (unscored 32 ∷ []) 4 7
-    ∷ refusedFrom (unscored 32 ∷ []) 5 7
+    ∷ drawnFrom (score 32 (negsuc 2) ∷ []) 3 (tree 1 (negsuc 2) (32 ∷ []) "5;")
+    ∷ drawnFrom (score 32 (negsuc 2) ∷ []) 4 (tree 1 (negsuc 2) (32 ∷ []) "5;")
+    ∷ drawnFrom (score 32 (negsuc 2) ∷ []) 5 (tree 1 (negsuc 2) (32 ∷ []) "5;")
+    ∷ refusedFrom (noScore 32 ∷ []) 3 7
+    ∷ refusedFrom (noScore 32 ∷ []) 4 7
+    ∷ refusedFrom (noScore 32 ∷ []) 5 7
     -- P7
-    ∷ refusedFrom (house ++ (unscored 8 ∷ [])) 3 7
-    ∷ refusedFrom (house ++ (unscored 8 ∷ [])) 4 7
-    ∷ refusedFrom (house ++ (unscored 8 ∷ [])) 5 7
+    ∷ refusedFrom (house ++ (noScore 8 ∷ [])) 3 7
+    ∷ refusedFrom (house ++ (noScore 8 ∷ [])) 4 7
+    ∷ refusedFrom (house ++ (noScore 8 ∷ [])) 5 7
     -- P8, P9, P10
     ∷ drawnFrom fifteen 3 (ofFifteen 15 7)
     ∷ drawnFrom fifteen 4 (ofFifteen 25 13)
@@ -68,6 +68,6 @@ cases =
       degree = 3;
       rescoring = some (score 3 (pos 5));
       changed = 3 ∷ 7 ∷ [];
-      outcome = drawn (toldTree 2 (pos 6) (1 ∷ 2 ∷ 3 ∷ 4 ∷ 7 ∷ []) "((0,1),2);");
+      ending = drawn (tree 2 (pos 6) (1 ∷ 2 ∷ 3 ∷ 4 ∷ 7 ∷ []) "((0,1),2);");
     }
     ∷ []
