@@ -2,7 +2,7 @@
 // Nothing public has a `requires`, and each `ensures` is one equation to a definition of `specs/`.
 //     is_inside, is_strict, is_apart, size, is_single, highest, lowest   a cluster as 64 bits
 //     is_scored                                                          a state
-//     Refusal, Answer, number_of                                         what is sent back
+//     Refusal, Answer, number_of, position_of                            what is sent back
 //     Record                                                             a record
 //     Rule, broken_rule, is_kept, is_score                               the record rules
 //     Reading, read_record, write_record                                 twelve bytes to a record, and back
@@ -30,6 +30,7 @@ pub use record::Record;
 pub use refusal::Answer;
 pub use refusal::Refusal;
 pub use refusal::number_of;
+pub use refusal::position_of;
 pub use rule::Rule;
 pub use rule::WEIGHT_MAX;
 pub use rule::broken_rule;

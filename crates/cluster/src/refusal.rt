@@ -2,8 +2,9 @@
 //     Refusal       the eleven refusals, in the order of their numbers
 //     Answer        a success or a refusal
 //     number_of     the paper's number of a refusal
+//     position_of   the position told with it
 ghost use mathlib.Core.Path.{_≡_};
-ghost use Rattle.cluster.specs.Refusal.{numberOf};
+ghost use Rattle.cluster.specs.Refusal.{numberOf, positionOf};
 
 // Why an operation was refused. A case holds a position, from 0, where the paper has one.
 pub enum Refusal {
@@ -55,5 +56,24 @@ pub fn number_of(refusal: Refusal) -> u64
         Refusal::NoRow => 9,
         Refusal::BadScore => 10,
         Refusal::NoRoom => 11,
+    }
+}
+
+// The position told with a refusal: 0 where the paper has none.
+pub fn position_of(refusal: Refusal) -> usize
+    ensures { λ n. ⌜ n ≡ positionOf refusal ⌝ }
+{
+    match refusal {
+        Refusal::NoBytes => 0,
+        Refusal::WrongLength => 0,
+        Refusal::TooLong => 0,
+        Refusal::DegreeOut => 0,
+        Refusal::BadRecord(position) => position,
+        Refusal::Repeated(position) => position,
+        Refusal::NoTree => 0,
+        Refusal::Unfit => 0,
+        Refusal::NoRow => 0,
+        Refusal::BadScore => 0,
+        Refusal::NoRoom => 0,
     }
 }

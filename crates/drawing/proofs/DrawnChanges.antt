@@ -9,56 +9,61 @@ use mathlib.Core.Logic.{_≢_, _↔_}
 use mathlib.Core.Option.{none, some}
 use mathlib.Core.List.{List, []}
 use Prim.Native.Nat.{ℕ}
-use Rattle.cluster.specs.declared.refusal.Refusal.the-variants.{NoTree}
-use Rattle.cluster.specs.Writing.{Wrote}
+use lib.Dec.{T}
+use Rattle.laws.specs.Limits.{Width, isDegree}
 use Rattle.laws.specs.Row.{Row}
+use Rattle.laws.specs.Widths.{WidthFacts}
+use Rattle.cluster.specs.declared.refusal.Refusal.the-variants.{NoTree}
+use Rattle.cluster.specs.Outcome.{Outcome}
+use Rattle.cluster.specs.Reasons.{firstReason}
+use Rattle.lists.specs.Records.{rowsOf}
 use Rattle.trees.specs.Heaviest.{firstHeaviest}
 use Rattle.shapes.specs.Drawn.{ascending, textOf}
 use Rattle.kept.specs.declared.table.Table.{Table}
-use Rattle.table.specs.Listing.{rowsOf}
 use Rattle.table.specs.Build.{buildTable}
-use Rattle.table.specs.Changes.{changeAll, rescoreAll}
-use Rattle.table.proofs.Changing.Changes.{AcceptedBytes, changes-accepted}
+use Rattle.table.specs.Changes.{AcceptedBytes, changeAll, rescoreAll}
+use Rattle.table.proofs.Changing.Changes.{changes-accepted}
 use Rattle.table.proofs.Theorems.{rescore-all-is-build}
-use Rattle.drawing.specs.Draw.{drawRefusal, drawTree, drawText}
-use Rattle.drawing.proofs.LeafRow.{leaves, treesOf}
-use Rattle.drawing.proofs.DrawnTables.{treeDrawn}
+use Rattle.members.specs.Draw.{drawReasons}
+use Rattle.drawing.specs.Draw.{drawTree, drawText}
+use Rattle.drawing.specs.Built.{leaves, treesOf, treeDrawn}
 use Rattle.drawing.proofs.DrawnLists.{build-refused-iff, build-drawn-iff, build-drawTree, build-drawText}
 
-module _ (l : List ℕ) (d : ℕ) (xs : List Row) (k : AcceptedBytes l d) where
+module _ (W : Width) (facts : WidthFacts W) (l : List ℕ) (d : ℕ) (degree : T (isDegree d)) (xs : List Row) (a : AcceptedBytes W l) where
   abbrev after : Table
-  after = rescoreAll (buildTable l d .table) xs
+  after = rescoreAll W (buildTable W l d .given) xs
 
   abbrev changed : List ℕ
-  changed = changeAll l xs
+  changed = changeAll W l xs
 
-  kept : AcceptedBytes changed d
-  kept = changes-accepted l d xs k
+  kept : AcceptedBytes W changed
+  kept = changes-accepted facts xs a
 
   abbrev trees : List (List ℕ)
-  trees = treesOf d (rowsOf changed)
+  trees = treesOf W d (rowsOf W changed)
 
   -- what is said of the fresh build is said of the table after the changes
-  as-built : (P : Table → Type 0) → P (buildTable changed d .table) → P after
-  as-built P h = subst P (sym (rescore-all-is-build l d xs k)) h
+  as-built : (P : Table → Type 0) → P (buildTable W changed d .given) → P after
+  as-built P h = subst P (sym (rescore-all-is-build facts d degree l xs a)) h
 
-  pub rescored-refused-iff : (drawRefusal after ≡ some NoTree) ↔ (trees ≡ [])
+  pub rescored-refused-iff : (firstReason (drawReasons W after) ≡ some NoTree) ↔ (trees ≡ [])
   rescored-refused-iff =
-      as-built (λ (t : Table). (drawRefusal t ≡ some NoTree) ↔ (trees ≡ [])) (build-refused-iff changed d (kept .byte) (kept .accepted))
+      as-built (λ (t : Table). (firstReason (drawReasons W t) ≡ some NoTree) ↔ (trees ≡ []))
+      (build-refused-iff W facts changed d degree kept)
 
-  pub rescored-drawn-iff : (drawRefusal after ≡ none) ↔ (trees ≢ [])
+  pub rescored-drawn-iff : (firstReason (drawReasons W after) ≡ none) ↔ (trees ≢ [])
   rescored-drawn-iff =
-      as-built (λ (t : Table). (drawRefusal t ≡ none) ↔ (trees ≢ [])) (build-drawn-iff changed d (kept .byte) (kept .accepted))
+      as-built (λ (t : Table). (firstReason (drawReasons W t) ≡ none) ↔ (trees ≢ [])) (build-drawn-iff W facts changed d degree kept)
 
   module _ (room : List ℕ) where
-    abbrev drawn : (List ℕ → List ℕ) → Wrote
-    drawn show = treeDrawn (firstHeaviest (rowsOf changed) trees) show room
+    abbrev drawn : (List ℕ → List ℕ) → Outcome (List ℕ)
+    drawn show = treeDrawn (firstHeaviest (rowsOf W changed) trees) show room
 
-    pub rescored-drawTree : drawTree after room ≡ drawn ascending
+    pub rescored-drawTree : drawTree W after room ≡ drawn ascending
     rescored-drawTree =
-        as-built (λ (t : Table). drawTree t room ≡ drawn ascending) (build-drawTree changed d (kept .byte) (kept .accepted) room)
+        as-built (λ (t : Table). drawTree W t room ≡ drawn ascending) (build-drawTree W facts changed d degree kept room)
 
-    pub rescored-drawText : drawText after room ≡ drawn (λ (ys : List ℕ). textOf ys (leaves (rowsOf changed)))
+    pub rescored-drawText : drawText W after room ≡ drawn (λ (ys : List ℕ). textOf ys (leaves (rowsOf W changed)))
     rescored-drawText =
-        as-built (λ (t : Table). drawText t room ≡ drawn (λ (ys : List ℕ). textOf ys (leaves (rowsOf changed))))
-        (build-drawText changed d (kept .byte) (kept .accepted) room)
+        as-built (λ (t : Table). drawText W t room ≡ drawn (λ (ys : List ℕ). textOf ys (leaves (rowsOf W changed))))
+        (build-drawText W facts changed d degree kept room)

@@ -8,46 +8,50 @@ use mathlib.Core.Path.{_≡_, ap, _∙_, sym}
 use mathlib.Core.Logic.{_≢_, _↔_}
 use mathlib.Core.Option.{none, some}
 use mathlib.Core.List.{List, []}
-use Prim.Native.Nat.{ℕ, _<_}
-use lib.ListN.{getD}
-use Rattle.cluster.specs.declared.refusal.Refusal.the-variants.{NoTree}
-use Rattle.cluster.specs.Bytes.{byteValues}
+use Prim.Native.Nat.{ℕ}
+use lib.Dec.{T}
+use Rattle.laws.specs.Limits.{Width, isDegree}
 use Rattle.laws.specs.Row.{Row}
+use Rattle.laws.specs.Widths.{WidthFacts}
+use Rattle.cluster.specs.declared.refusal.Refusal.the-variants.{NoTree}
+use Rattle.cluster.specs.Reasons.{firstReason}
+use Rattle.lists.specs.Records.{rowsOf}
 use Rattle.trees.specs.Heaviest.{firstHeaviest}
 use Rattle.shapes.specs.Drawn.{ascending, textOf}
 use Rattle.kept.specs.declared.table.Table.{Table}
-use Rattle.table.specs.Listing.{rowsOf}
 use Rattle.table.specs.Build.{buildTable}
-use Rattle.table.proofs.Acceptance.{accepted-rows, built-table}
-use Rattle.table.proofs.Laws.Accepted.{Accepted}
-use Rattle.drawing.specs.Draw.{drawRefusal, drawTree, drawText}
-use Rattle.drawing.proofs.LeafRow.{builtFrom, leaves, treesOf}
-use Rattle.drawing.proofs.DrawnTables.{treeDrawn, refused-iff, drawn-iff, drawTree-built, drawText-built}
+use Rattle.table.specs.Changes.{AcceptedBytes}
+use Rattle.table.proofs.Laws.Build.{Buildable, buildable}
+use Rattle.table.proofs.Theorems.{built-table}
+use Rattle.members.specs.Draw.{drawReasons}
+use Rattle.drawing.specs.Draw.{drawTree, drawText}
+use Rattle.drawing.specs.Built.{builtFrom, leaves, treesOf, treeDrawn}
+use Rattle.drawing.proofs.DrawnTables.{refused-iff, drawn-iff, drawTree-built, drawText-built}
 
-module _ (l : List ℕ) (d : ℕ) (byte : (i : ℕ) → getD l i 0 < byteValues) (a : Accepted l d) where
+module _ (W : Width) (facts : WidthFacts W) (l : List ℕ) (d : ℕ) (degree : T (isDegree d)) (a : AcceptedBytes W l) where
   abbrev rs : List Row
-  rs = rowsOf l
+  rs = rowsOf W l
 
-  pub build-is : buildTable l d .table ≡ builtFrom d (rowsOf l)
-  build-is = built-table l d a
+  rows : Buildable W d rs
+  rows = buildable facts degree (a .byte) (a .accepted)
 
-  refusal-is : drawRefusal (buildTable l d .table) ≡ drawRefusal (builtFrom d rs)
-  refusal-is = ap drawRefusal build-is
+  pub build-is : buildTable W l d .given ≡ builtFrom W d (rowsOf W l)
+  build-is = built-table W l d degree (a .accepted)
 
-  pub build-refused-iff : (drawRefusal (buildTable l d .table) ≡ some NoTree) ↔ (treesOf d (rowsOf l) ≡ [])
-  build-refused-iff =
-      let q = refused-iff d rs (accepted-rows l d byte a) in
-      (λ e. q .0 (sym refusal-is ∙ e), λ e. refusal-is ∙ q .1 e)
+  why-is : firstReason (drawReasons W (buildTable W l d .given)) ≡ firstReason (drawReasons W (builtFrom W d rs))
+  why-is = ap (λ (t : Table). firstReason (drawReasons W t)) build-is
 
-  pub build-drawn-iff : (drawRefusal (buildTable l d .table) ≡ none) ↔ (treesOf d (rowsOf l) ≢ [])
-  build-drawn-iff =
-      let q = drawn-iff d rs (accepted-rows l d byte a) in
-      (λ e. q .0 (sym refusal-is ∙ e), λ n. refusal-is ∙ q .1 n)
+  pub build-refused-iff : (firstReason (drawReasons W (buildTable W l d .given)) ≡ some NoTree) ↔ (treesOf W d (rowsOf W l) ≡ [])
+  build-refused-iff = let q = refused-iff W facts d rs rows in (λ e. q .0 (sym why-is ∙ e), λ e. why-is ∙ q .1 e)
+
+  pub build-drawn-iff : (firstReason (drawReasons W (buildTable W l d .given)) ≡ none) ↔ (treesOf W d (rowsOf W l) ≢ [])
+  build-drawn-iff = let q = drawn-iff W facts d rs rows in (λ e. q .0 (sym why-is ∙ e), λ n. why-is ∙ q .1 n)
 
   module _ (room : List ℕ) where
-    pub build-drawTree : drawTree (buildTable l d .table) room ≡ treeDrawn (firstHeaviest (rowsOf l) (treesOf d (rowsOf l))) ascending room
-    build-drawTree = ap (λ (t : Table). drawTree t room) build-is ∙ drawTree-built d rs (accepted-rows l d byte a) room
+    pub build-drawTree : drawTree W (buildTable W l d .given) room
+        ≡ treeDrawn (firstHeaviest (rowsOf W l) (treesOf W d (rowsOf W l))) ascending room
+    build-drawTree = ap (λ (t : Table). drawTree W t room) build-is ∙ drawTree-built W facts d rs rows room
 
-    pub build-drawText : drawText (buildTable l d .table) room
-        ≡ treeDrawn (firstHeaviest (rowsOf l) (treesOf d (rowsOf l))) (λ (xs : List ℕ). textOf xs (leaves (rowsOf l))) room
-    build-drawText = ap (λ (t : Table). drawText t room) build-is ∙ drawText-built d rs (accepted-rows l d byte a) room
+    pub build-drawText : drawText W (buildTable W l d .given) room
+        ≡ treeDrawn (firstHeaviest (rowsOf W l) (treesOf W d (rowsOf W l))) (λ (xs : List ℕ). textOf xs (leaves (rowsOf W l))) room
+    build-drawText = ap (λ (t : Table). drawText W t room) build-is ∙ drawText-built W facts d rs rows room

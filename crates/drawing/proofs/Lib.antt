@@ -1,6 +1,12 @@
 -- In the order in which they build on each other.
--- the marked rows of a table whose marks are those of a test
-pub mod MarkedRows
+-- a set of clusters that passes the test of a tree
+pub mod Tested
+-- what asking for a tree or a text gives, and copies into a room; for the crates above too
+pub mod Laws
+-- the child with a taxon, as the writer of a text looks for it
+mod PartWith
+-- what the writer has left to write
+mod Written
 -- the leaf set of a built table, and its row
 pub mod LeafRow
 -- its first heaviest tree, as the marks have it
@@ -11,15 +17,3 @@ pub mod DrawnTables
 pub mod DrawnLists
 -- and after any changes
 pub mod DrawnChanges
--- the child with a taxon, as the writer of a text looks for it
-pub mod PartWith
--- bytes stored one after another
-pub mod Stores
--- a part that the writer may write
-pub mod Writable
--- what the writer has left to write
-pub mod Written
--- one outcome of asking for a tree or a text
-pub mod Outcomes
--- what the functions are proved by, for the crates above too
-pub mod Laws

@@ -5,18 +5,19 @@
 -- Assumes nothing.
 use mathlib.Core.Path.{_≡_, refl, sym, ap, _∙_}
 use mathlib.Core.Bool.{Bool, true, false, cond, _&&_}
-use mathlib.Core.List.{List}
+use mathlib.Core.List.{List, _∷_}
 use Prim.Native.Nat.{ℕ, _+_, _*_, _%_, _^_, _≤_, _<_, max}
 use native.Mathlib.Nat.{one-mul}
+use native.Mathlib.Numerals.{add-one}
 use native.Mathlib.Omega.{arith}
 use lib.Dec.{lit<}
 use lib.ListN.{length, getD, drop, drop-of-length-le}
 use lib.Pow.{shl-exact}
+use lib.Seq.{drop-cons}
 use Rattle.laws.specs.Cluster.{inside, strict}
 use Rattle.laws.specs.Lists.{keepIf, keep}
 use Rattle.trees.specs.Heaviest.{largest}
 use Rattle.shapes.specs.Parts.{childWith}
-use Rattle.drawing.proofs.Laws.Scan.{drop-more}
 
 -- ---- one member
 
@@ -59,7 +60,8 @@ module _ (xs : List ℕ) (C t : ℕ) where
   child-more : (best i : ℕ) → i < length xs → childFrom best i ≡ childFrom (cond (has (getD xs i 0)) (max best (getD xs i 0)) best) (i + 1)
   child-more best i h =
       let k = getD xs i 0 in
-      ap (λ (l : List ℕ). max best (largest (keep has l))) (drop-more xs i h) ∙ larger-kept (has k) best k (keep has (drop (i + 1) xs))
+      let next : drop i xs ≡ k ∷ drop (i + 1) xs = rw (add-one i, drop-cons xs i 0 h) in
+      ap (λ (l : List ℕ). max best (largest (keep has l))) next ∙ larger-kept (has k) best k (keep has (drop (i + 1) xs))
 
   -- the code's own bit is the cluster of the taxon
   pub child-turn : (best i r : ℕ) → t < 64 → i < length xs

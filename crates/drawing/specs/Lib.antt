@@ -1,4 +1,4 @@
--- Read in this order: the marked rows of a table, and what is sent back; last, what the private functions cite.
-pub mod Marked
+-- Read in this order: what is sent back, and the words of the theorems; last, what the private functions cite.
 pub mod Draw
+pub mod Built
 pub mod Gathered

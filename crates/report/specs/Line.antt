@@ -1,43 +1,41 @@
 -- The printed line of a list and a degree bound (document 01, "Drawing it": the program `besttree`). Laws: `proofs/Laws/Line.antt`.
+--     lineFor d f line     the line of a refusal, if there is one; else the line given
 --     tableLine d t        the line of a table: its first heaviest tree, or why none is drawn
 --     lineOf l d           the line of the list l and the degree bound d
 --     lineInto l d room    what asking for it gives
 --     lineCap              no line is longer
 -- Assumes nothing.
-use mathlib.Core.Bool.{cond}
 use mathlib.Core.Option.{Option, none, some}
-use mathlib.Core.List.{List}
-use Prim.Native.Nat.{ℕ}
-use lib.Dec.{eqb}
+use mathlib.Core.List.{List, []}
+use Prim.Native.Nat.{ℕ, _+_}
+use Rattle.laws.specs.Limits.{narrow}
 use Rattle.cluster.specs.declared.refusal.Answer.the-variants.{Refused}
 use Rattle.cluster.specs.declared.refusal.Refusal.{Refusal}
 use Rattle.cluster.specs.Refusal.{sentOf}
-use Rattle.cluster.specs.Writing.{Wrote}
-use Rattle.shapes.specs.Drawn.{textOf}
+use Rattle.cluster.specs.Reasons.{firstReason}
+use Rattle.cluster.specs.Outcome.{Outcome, written}
 use Rattle.kept.specs.declared.table.Table.{Table}
 use Rattle.kept.specs.View.{resultAt}
-use Rattle.kept.specs.Rows.{leafSet}
-use Rattle.table.specs.Build.{Making, buildTable}
-use Rattle.drawing.specs.Draw.{leafRow, membersOf, drawRefusal, putInto}
+use Rattle.table.specs.Build.{buildReasons, buildTable}
+use Rattle.members.specs.Draw.{leafRow, drawReasons}
+use Rattle.drawing.specs.Draw.{leafText}
 use Rattle.report.specs.Words.{refusedLine, treeLine}
 
--- a degree of 1 figure, a count of 10, a weight of 8 with its sign, a text of 148, three spaces and the line feed
+-- beside a text, a degree of 1 figure, a count of 10, a weight of 9 with its sign, three spaces and the line feed
 abbrev pub lineCap : ℕ
-lineCap = 172
+lineCap = narrow .textBytes + 24
 
-abbrev pub drawnLine : ℕ → Table → Option Refusal → List ℕ
-drawnLine d t (some f) = refusedLine d (sentOf (Refused f))
-drawnLine d t none =
-    let v = resultAt t (leafRow t) in treeLine d (v .count) (v .mark) (v .best) (textOf (membersOf t) (leafSet t))
+abbrev pub lineFor : ℕ → Option Refusal → List ℕ → List ℕ
+lineFor d (some f) line = refusedLine d (sentOf (Refused f))
+lineFor d none line = line
 
 abbrev pub tableLine : ℕ → Table → List ℕ
-tableLine d t = drawnLine d t (drawRefusal t)
-
-abbrev pub builtLine : ℕ → Making → List ℕ
-builtLine d b = cond (eqb (b .sent .number) 0) (tableLine d (b .table)) (refusedLine d (b .sent))
+tableLine d t =
+    let v = resultAt t (leafRow t) in
+    lineFor d (firstReason (drawReasons narrow t)) (treeLine d (v .count) (v .mark) (v .best) (leafText t))
 
 unfoldable pub lineOf : List ℕ → ℕ → List ℕ
-lineOf l d = builtLine d (buildTable l d)
+lineOf l d = lineFor d (firstReason (buildReasons narrow l d)) (tableLine d (buildTable narrow l d .given))
 
-unfoldable pub lineInto : List ℕ → ℕ → List ℕ → Wrote
-lineInto l d room = putInto (lineOf l d) room
+unfoldable pub lineInto : List ℕ → ℕ → List ℕ → Outcome (List ℕ)
+lineInto l d room = written [] (lineOf l d) room

@@ -11,14 +11,14 @@ use Prim.Native.Nat.{ℕ, _-_}
 use lib.Dec.{eqb, leb}
 use lib.ListN.{length, length-reverse}
 use Rattle.laws.specs.Cluster.{inside, strict, nested, single, size, taxa}
-use Rattle.laws.specs.Lists.{keep, every, any}
+use Rattle.laws.specs.Lists.{keep, every, any, Same}
 use Rattle.laws.proofs.Appended.{mem-reverse, mem-of-reverse, once-reverse, every-reverse, any-reverse, keep-reverse}
 use Rattle.trees.specs.Tree.{children, isTree}
 use Rattle.shapes.specs.Shape.{verticesOf}
 use Rattle.shapes.specs.Text.{textBytes}
 use Rattle.shapes.specs.Drawn.{shapeOf, textOf}
-use Rattle.shapes.proofs.Only.{Same}
-use Rattle.shapes.proofs.Theorems.{TreeOn, shape-ordered, shape-clusters, shape-once, shape-only}
+use Rattle.shapes.specs.Nests.{TreeOn}
+use Rattle.shapes.proofs.Theorems.{shape-ordered, shape-clusters, shape-once, shape-only}
 
 -- ---- the test of a tree
 

@@ -23,8 +23,9 @@ use Rattle.laws.proofs.Taxa.{single→, inside-single, size-pos, size-lt}
 use Rattle.laws.proofs.Lowest.{lowest-taxon}
 use Rattle.shapes.specs.Shape.{Shape, taxon, vertex, topOf, topsOf, verticesOf, verticesIn, smallest, ascends, isOrdered, areOrdered}
 use Rattle.shapes.specs.Drawn.{childrenInOrder, shapesBy, shapeOf}
+use Rattle.shapes.specs.Nests.{Nests}
 use Rattle.shapes.proofs.Sorted.{rising-map}
-use Rattle.shapes.proofs.Nests.{Nests, Child, child-over, children-apart}
+use Rattle.shapes.proofs.Nests.{Child, child-over, children-apart}
 use Rattle.shapes.proofs.Parts.{in-order→, →in-order, order-rising, order-once, order-union, order-two}
 
 pub record Draws (xs : List ℕ) (C : ℕ) (s : Shape) : Type 0 where

@@ -1,5 +1,4 @@
--- Sets of clusters that nest and have the single taxa of their members: trees, without their top and degree. The children of a member.
---     Nests xs              the facts
+-- The children of a member of clusters that nest, `Nests` of `specs/Nests.antt`.
 --     Child xs C c, child→, →child     c is a child of C, as facts
 --     childWith-child       the largest member with a taxon, strictly inside C, is a child of C
 --     child-over            a member strictly inside C lies inside a child of C
@@ -18,7 +17,7 @@ use native.Mathlib.Omega.{arith}
 use lib.Dec.{T, T-not, not-T}
 use lib.ListN.{length}
 use Rattle.laws.specs.Cluster.{inside, strict, apart, nested, single, unionOf}
-use Rattle.laws.specs.Lists.{keep, any, Once}
+use Rattle.laws.specs.Lists.{keep, any}
 use Rattle.laws.proofs.Tests.{T-and, and-T}
 use Rattle.laws.proofs.Keep.{mem-keep, mem-of-keep, any→, →any}
 use Rattle.laws.proofs.Cluster.{inside-refl, inside-trans, inside-antisym, le-of-inside, has-of-inside, inside-of-taxa, apart→}
@@ -30,13 +29,7 @@ use Rattle.trees.specs.Tree.{children}
 use Rattle.trees.proofs.Ties.TieRule.{largest-le}
 use Rattle.shapes.specs.Shape.{smallest}
 use Rattle.shapes.specs.Parts.{childWith}
-
-pub record Nests (xs : List ℕ) : Type 0 where
-  pub once : Once xs
-  pub nonzero : (c : ℕ) → Mem c xs → c ≢ 0
-  pub small : (c : ℕ) → Mem c xs → c < 2 ^ 64
-  pub nest : (a b : ℕ) → Mem a xs → Mem b xs → T (nested a b)
-  pub leaves : (c t : ℕ) → Mem c xs → T (inside (2 ^ t) c) → Mem (2 ^ t) xs
+use Rattle.shapes.specs.Nests.{Nests}
 
 -- ---- the largest of some clusters
 

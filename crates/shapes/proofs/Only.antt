@@ -1,5 +1,4 @@
 -- An ordered shape is decided by its clusters, each of which it has once.
---     Same l r          two lists have the same elements
 --     ordered-only      ordered shapes with the same clusters, none twice, are equal
 -- Assumes nothing.
 use mathlib.Core.Path.{_≡_, refl, sym, ap, ap₂, _∙_, subst}
@@ -12,7 +11,7 @@ use native.Mathlib.Omega.{arith}
 use lib.Dec.{T}
 use lib.ListN.{length}
 use Rattle.laws.specs.Cluster.{inside, apart, unionOf}
-use Rattle.laws.specs.Lists.{every, Once}
+use Rattle.laws.specs.Lists.{every, Once, Same}
 use Rattle.laws.proofs.Tests.{T-and}
 use Rattle.laws.proofs.Keep.{every→}
 use Rattle.laws.proofs.Digits.{Has, has-pow, pow-has}
@@ -24,10 +23,6 @@ use Rattle.shapes.specs.Shape.{smallest, isOrdered, areOrdered}
 use Rattle.shapes.proofs.Sorted.{rising-only, map-rising}
 use Rattle.shapes.proofs.Shape.{top-cluster, tops-clusters, cluster-inside, clusters-inside, first-top, Ordered, ordered→}
 use Rattle.shapes.proofs.Shape.{tops-nonzero, cluster-nonzero, clusters-nonzero, isApart, areApart, apart-of-once}
-
-pub record Same (l r : List ℕ) : Type 0 where
-  pub to : (c : ℕ) → Mem c l → Mem c r
-  pub from : (c : ℕ) → Mem c r → Mem c l
 
 flip : (l r : List ℕ) → Same l r → Same r l
 flip l r h = record { to = h .from; from = h .to }
@@ -91,8 +86,8 @@ tops-part ss ss′ g h k m = go (apart-of-tuple (topsOf ss) (g .apart) k (r .0) 
 tops-same : (ss ss′ : Shapes) → Good ss → Good ss′ → Same (verticesIn ss) (verticesIn ss′) → topsOf ss ≡ topsOf ss′
 tops-same ss ss′ g g′ h =
     rising-only smallest (topsOf ss) (topsOf ss′) (map-rising smallest (topsOf ss) (g .ordered .rises))
-    (map-rising smallest (topsOf ss′) (g′ .ordered .rises)) (tops-part ss ss′ g h)
-    (tops-part ss′ ss g′ (flip (verticesIn ss) (verticesIn ss′) h))
+    (map-rising smallest (topsOf ss′) (g′ .ordered .rises))
+    (record { to = tops-part ss ss′ g h; from = tops-part ss′ ss g′ (flip (verticesIn ss) (verticesIn ss′) h) })
 
 -- ---- a first child and the others
 

@@ -18,7 +18,7 @@ use Rattle.shapes.specs.Shape.{Shape, taxon, vertex, smallest}
 use Rattle.shapes.specs.Text.{opening, closing, withCommas, print, printEach}
 use Rattle.shapes.specs.Drawn.{childrenInOrder, shapesBy, shapeOf}
 use Rattle.shapes.specs.Parts.{partBytes}
-use Rattle.shapes.proofs.Nests.{Nests}
+use Rattle.shapes.specs.Nests.{Nests}
 use Rattle.shapes.proofs.Parts.{in-order→}
 use Rattle.shapes.proofs.Drawn.{Draws, shape-draws}
 use Rattle.shapes.proofs.Only.{ordered-only}

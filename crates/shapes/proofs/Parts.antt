@@ -28,8 +28,9 @@ use Rattle.trees.specs.Tree.{children}
 use Rattle.shapes.specs.Shape.{smallest}
 use Rattle.shapes.specs.Drawn.{childrenInOrder}
 use Rattle.shapes.specs.Parts.{childWith}
+use Rattle.shapes.specs.Nests.{Nests}
 use Rattle.shapes.proofs.Sorted.{RisingBy, rising-once, rising-only, sort-rising}
-use Rattle.shapes.proofs.Nests.{Nests, Child, child→, →child, childWith-child, children-apart}
+use Rattle.shapes.proofs.Nests.{Child, child→, →child, childWith-child, children-apart}
 use Rattle.shapes.proofs.Nests.{taxon-strict, children-union, children-two}
 
 -- ---- in order
@@ -154,7 +155,7 @@ module _ (xs : List ℕ) (N : Nests xs) (C : ℕ) where
       pub parts-more : partsIn left ≡ next ∷ partsIn (left - next)
       parts-more =
           rising-only smallest (partsIn left) (next ∷ partsIn (left - next))
-          (in-turn-keep _ (λ (c : ℕ). inside c left) order order-rising) first-rising to from
+          (in-turn-keep _ (λ (c : ℕ). inside c left) order order-rising) first-rising (record { to = to; from = from })
         where
           to : (c : ℕ) → Mem c (partsIn left) → Mem c (next ∷ partsIn (left - next))
           to c k = go (ℕ-discrete c next)

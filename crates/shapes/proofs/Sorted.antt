@@ -15,7 +15,7 @@ use Prim.Native.Nat.{ℕ, _<_}
 use native.Mathlib.Omega.{arith}
 use borrow.Author.Tests.{ltb-true, ltb-false}
 use lib.Dec.{T, ltb, ltb→lt, lt→ltb}
-use Rattle.laws.specs.Lists.{every, Once, InTurn, Falling, sortBy}
+use Rattle.laws.specs.Lists.{every, Once, Same, InTurn, Falling, sortBy}
 use Rattle.laws.proofs.Tests.{T-and, and-T}
 use Rattle.laws.proofs.Keep.{every→, →every}
 use Rattle.laws.proofs.Falling.{falling-once}
@@ -32,8 +32,7 @@ module _ (key : ℕ → ℕ) where
   rising-once [] r = tt
   rising-once (c ∷ cs) r = (λ m. omega (arith, r .0 c m), rising-once cs (r .1))
 
-  pub rising-only : (xs ys : List ℕ) → RisingBy key xs → RisingBy key ys
-      → ((x : ℕ) → Mem x xs → Mem x ys) → ((x : ℕ) → Mem x ys → Mem x xs) → xs ≡ ys
+  pub rising-only : (xs ys : List ℕ) → RisingBy key xs → RisingBy key ys → Same xs ys → xs ≡ ys
   rising-only = in-turn-only (λ (c x : ℕ). key c < key x) (λ c x h k. omega arith)
 
   pub rising-map : (l : List ℕ) → RisingBy key l → T (ascends (map key l))
@@ -94,4 +93,4 @@ rising-reverse (c ∷ cs) f =
 pub ascending-is-reverse : (xs : List ℕ) → Falling xs → ascending xs ≡ reverse xs
 ascending-is-reverse xs f =
     rising-only (λ (c : ℕ). c) (ascending xs) (reverse xs) (ascending-rising xs (falling-once xs f)) (rising-reverse xs f)
-    (λ x m. mem-reverse xs (mem-of-sort ltb xs m)) (λ x m. mem-sort ltb xs (mem-of-reverse xs m))
+    (record { to = λ x m. mem-reverse xs (mem-of-sort ltb xs m); from = λ x m. mem-sort ltb xs (mem-of-reverse xs m) })

@@ -1,5 +1,4 @@
 -- What is proved of the text of a tree and of its list of clusters.
---     TreeOn xs C               the facts of a tree on C that drawing it rests on
 --     tree-on, trees-on         a tree as a family, and a tree of the definition, have them
 --     shape-top, shape-ordered, shape-clusters, shape-once     the shape has C for its top, is ordered, and has the members, each once
 --     shape-only                it is the only ordered shape that has them
@@ -21,7 +20,7 @@ use lib.ListN.{length}
 use lib.Pow.{pow-mono}
 use Rattle.laws.specs.Cluster.{inside, size}
 use Rattle.laws.specs.Limits.{Width}
-use Rattle.laws.specs.Lists.{keep, Once}
+use Rattle.laws.specs.Lists.{keep, Once, Same}
 use Rattle.laws.specs.Widths.{WidthFacts}
 use Rattle.laws.proofs.Keep.{mem-keep, mem-of-keep, elem→, →elem}
 use Rattle.laws.proofs.Once.{once-keep}
@@ -36,16 +35,11 @@ use Rattle.trees.proofs.Bounds.TreeSize.{treesOn-length-le}
 use Rattle.trees.proofs.Joined.TreeTest.{famOf, tree-of}
 use Rattle.shapes.specs.Shape.{Shape, topOf, verticesOf, isOrdered}
 use Rattle.shapes.specs.Drawn.{ascending, shapeOf, textOf}
+use Rattle.shapes.specs.Nests.{TreeOn}
 use Rattle.shapes.proofs.Print.{print-inj}
-use Rattle.shapes.proofs.Nests.{Nests}
 use Rattle.shapes.proofs.Drawn.{Draws, shape-draws}
-use Rattle.shapes.proofs.Only.{Same, ordered-only}
+use Rattle.shapes.proofs.Only.{ordered-only}
 use Rattle.shapes.proofs.TextLength.{text-length-le}
-
-pub record TreeOn (xs : List ℕ) (C : ℕ) : Type 0 where
-  pub nests : Nests xs
-  pub top : Mem C xs
-  pub within : (c : ℕ) → Mem c xs → T (inside c C)
 
 -- ---- trees have these facts
 

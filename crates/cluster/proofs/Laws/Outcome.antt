@@ -3,7 +3,9 @@
 --     ended-refused, ended-done     what an outcome tells of the refusal, and what was given
 --     accepts-iff       the number sent back is 0 exactly where no reason applies
 --     refuses-iff       a refusal is sent back exactly where it is the first that applies
---     written-refused, written-short, written-whole     writing into a room, by cases
+--     written-refused, written-passed     writing into a room: the first reason that applies; where none does, the room decides
+--     written-short, written-whole     by the room
+--     written-told      a success tells how many were written, which the room has room for
 --     written-accepts-iff     it is written exactly where no reason applies and the room is long enough
 -- Assumes nothing.
 use mathlib.Core.Path.{_≡_, refl, sym, ap, _∙_}
@@ -76,6 +78,9 @@ module _ (rs : List Reason) (out l : List ℕ) where
   pub written-refused : (f : Refusal) → firstReason rs ≡ some f → written rs out l ≡ outcomeOf (Refused f) l
   written-refused f e = written-by (first-some rs no-room f e)
 
+  pub written-passed : firstReason rs ≡ none → written rs out l ≡ written [] out l
+  written-passed e = written-by (first-none rs no-room e)
+
   pub written-short : firstReason rs ≡ none → length l < length out → written rs out l ≡ outcomeOf (Refused NoRoom) l
   written-short e h = written-by (first-none rs no-room e ∙ reason-told (ltb (length l) (length out)) NoRoom [] (le-leb _ _ h))
 
@@ -96,3 +101,8 @@ module _ (rs : List Reason) (out l : List ℕ) where
       to e =
           let k = none-append rs no-room (accepts-iff (rs ++ no-room) l (length out) (out ++ drop (length out) l) .0 e) in
           (k .0, fits (k .1 .0) (decLe (length out) (length l)))
+
+  pub written-told : (n : ℕ) (m : List ℕ) → outcomeOf (Done n) m ≡ written rs out l → (n ≡ length out) × (length out ≤ length l)
+  written-told n m e =
+      let q = written-accepts-iff .0 (sym (ap (λ (o : Outcome (List ℕ)). o .sent .number) e)) in
+      (ap (λ (o : Outcome (List ℕ)). o .sent .told) (e ∙ written-whole (none-iff rs .1 (q .0)) (q .1)), q .1)

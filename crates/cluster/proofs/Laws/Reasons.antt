@@ -2,13 +2,15 @@
 --     reason-told, reason-passed     a reason that applies is told; one that doesn't is passed over
 --     first-some, first-none         reasons in front of others: what is told of them is told, else what is told of the others
 --     none-append                    none of both applies
+--     Each P rs, first-each          what holds of each refusal, where it applies and none before does, holds of the one that is told
 --     first-iff, none-iff            what is told as facts: the first that applies, or that none does
 -- Assumes nothing.
-use mathlib.Core.Path.{_≡_, refl, ap, _∙_}
+use mathlib.Core.Path.{_≡_, refl, ap, _∙_, subst}
 use mathlib.Core.Logic.{_↔_, inl, inr}
 use mathlib.Core.Bool.{Bool, true, false, cond}
 use mathlib.Core.Option.{none, some, Option·some-injective, Option·none-ne-some, Option·some-ne-none}
 use mathlib.Core.List.{List, [], _∷_, _++_}
+use lib.Dec.{T}
 use Rattle.laws.proofs.Tests.{T-true, T-false}
 use Rattle.cluster.specs.declared.refusal.Refusal.{Refusal}
 use Rattle.cluster.specs.Reasons.{Reason, when, firstReason, First, NoneApplies}
@@ -39,6 +41,19 @@ first-none (r ∷ rs) qs e = go (r .applies) e (first-none rs qs)
         → cond b (some (r .refusal)) (firstReason (rs ++ qs)) ≡ firstReason qs
     go true e ih = absurd (Option·some-ne-none (r .refusal) e)
     go false e ih = ih e
+
+abbrev pub Each : (Refusal → Type 0) → List Reason → Type 0
+Each P [] = Unit {0}
+Each P (r ∷ rs) = (T (r .applies) → P (r .refusal)) × ((T (r .applies) → ⊥) → Each P rs)
+
+pub first-each : (P : Refusal → Type 0) (rs : List Reason) → Each P rs → (f : Refusal) → firstReason rs ≡ some f → P f
+first-each P [] k f e = absurd (Option·none-ne-some f e)
+first-each P (r ∷ rs) k f e = go (r .applies) k e (λ h. first-each P rs h f)
+  where
+    go : (b : Bool) → (T b → P (r .refusal)) × ((T b → ⊥) → Each P rs) → cond b (some (r .refusal)) (firstReason rs) ≡ some f
+        → (Each P rs → firstReason rs ≡ some f → P f) → P f
+    go true q e ih = subst P (Option·some-injective (r .refusal) f e) (q .0 tt)
+    go false q e ih = ih (q .1 (λ t. t)) e
 
 -- ---- as facts
 

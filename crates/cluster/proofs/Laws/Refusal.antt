@@ -2,13 +2,14 @@
 --     answers n p      a success that tells n, then every refusal in the paper's order, with p where it has a position
 --     sent-table       the paper's number, position and what is told for each: an edit of the definitions is refused here
 --     sentOf-inj       equal things sent, equal answers
---     number-pos       no refusal has the number 0, which says that there is none
+--     number-pos, number-le     no refusal has the number 0, which says that there is none, and none more than 11
 -- Assumes nothing.
 use mathlib.Core.Path.{_≡_, refl, sym, ap, _∙_}
 use mathlib.Core.List.{List, [], _∷_, map}
-use Prim.Native.Nat.{ℕ}
+use Prim.Native.Nat.{ℕ, _≤_}
+use native.Mathlib.Decide.{decLe}
 use native.Mathlib.Omega.{arith}
-use lib.ListN.{getD}
+use lib.ListN.{getD, List·getD-eq-default}
 use Rattle.cluster.specs.declared.refusal.Answer.{Answer}
 use Rattle.cluster.specs.declared.refusal.Answer.the-variants.{Done, Refused}
 use Rattle.cluster.specs.declared.refusal.Refusal.{Refusal}
@@ -70,3 +71,15 @@ unfolding answerOf
 number-pos f e =
     let done : Refused f ≡ Done 0 = sym (answerOf-sent (Refused f)) ∙ ap (λ (m : ℕ). answerOf m (positionOf f) 0) e in
     let z : _≡_ {A = ℕ} 0 1 = cc in omega arith
+
+-- past the last number there is no refusal
+pub number-le : (f : Refusal) → numberOf f ≤ 11
+unfolding answerOf
+number-le f = go (decLe (numberOf f) 11)
+  where
+    go : Dec (numberOf f ≤ 11) → numberOf f ≤ 11
+    go (yes h) = h
+    go (no h) =
+        let past = List·getD-eq-default (answers 0 (positionOf f)) (Done 0) {n = numberOf f} (omega arith) in
+        let done : Refused f ≡ Done 0 = sym (answerOf-sent (Refused f)) ∙ past in
+        let z : _≡_ {A = ℕ} 0 1 = cc in absurd (omega arith)

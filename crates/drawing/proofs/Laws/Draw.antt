@@ -1,142 +1,114 @@
--- Why nothing is drawn, test by test, and what the leaf set's row holds.
---     rows-capped, degree-some     a fit table has 128 rows or fewer, and a degree bound
---     members-held                 the members, from the marks of a row that is the leaf set's
---     weighs-less, weighs-other    their weights beside the row's best, as the code compares them: less; else whether it is less
---     drawable-unscored, drawable-no-tree, drawable-tree     the tests of the marks in turn
---     hasTree→             the leaf set has a row, and its count isn't 0
---     hasTree-no-row, hasTree-no-count, hasTree-count        whether there is a tree, in turn
---     refusal-unfit, refusal-no-tree, refusal-marks, refusal-none     the refusals in turn
+-- What asking for a tree or a text gives, for each way out.
+--     tree-on                   the members of a table of which a tree is drawn are a tree on the leaf set
+--     leaf-row-lt               the row of the leaf set is one of those that there is room for
+--     tree-refused, tree-put    the tree: refused, and put into the room
+--     text-refused, text-put    so for the text
+--     drawn-text-refused, drawn-text-done     the text by value
+--     TextDrawn W t r           what is known of a text by value that isn't refused
+--     text→refused, text→drawn  what its answer tells
+--     tree-only, text-only, drawn-text-only     two outcomes that a promise allows are equal
 -- Assumes nothing.
-use mathlib.Core.Path.{_≡_, sym, ap, ap₂, _∙_, subst}
-use mathlib.Core.Logic.{_≢_}
-use mathlib.Core.Bool.{Bool, true, false, not, _&&_, and-false}
-use mathlib.Core.Option.{none, some}
-use Prim.Native.Nat.{ℕ, _≤_, _<_}
-use native.Mathlib.Nat.{min-eq-left}
+use mathlib.Core.Path.{_≡_, refl, sym, ap, ap₂, _∙_}
+use mathlib.Core.List.{List, []}
+use mathlib.Core.Option.{Option, none, some}
+use Prim.Native.Nat.{ℕ, _<_}
 use native.Mathlib.Omega.{arith}
-use borrow.Author.Tests.{eq-eqb, ne-eqb, lt-ltb, le-ltb}
-use lib.Dec.{T, eqb, ltb, ltb→lt}
-use lib.IntN.{ℤ}
-use lib.ListN.{take}
-use lib.Signed.{ltZ}
-use mir.Facts.{toZ-ofZ}
-use mir.Syntax.{w64}
-use mir.Val.{SFits, toZ, ofZ}
-use Rattle.laws.specs.Limits.{narrow, rowCap}
-use Rattle.laws.proofs.Tests.{T-and, true-T, neq→}
-use Rattle.laws.proofs.Width.{narrow-facts}
-use Rattle.cluster.specs.declared.refusal.Refusal.the-variants.{NoTree, Unfit}
-use Rattle.trees.specs.Tree.{isTree}
+use lib.ListN.{length}
+use Rattle.laws.specs.Limits.{Width, rowCap}
+use Rattle.laws.specs.Widths.{WidthFacts}
+use Rattle.laws.proofs.Tests.{true-T}
+use Rattle.cluster.specs.declared.refusal.Answer.{Answer}
+use Rattle.cluster.specs.declared.refusal.Answer.the-variants.{Done, Refused}
+use Rattle.cluster.specs.declared.refusal.Refusal.{Refusal}
+use Rattle.cluster.specs.Reasons.{firstReason}
+use Rattle.cluster.specs.Outcome.{outcomeOf, ended, written}
+use Rattle.cluster.proofs.Laws.Outcome.{outcome-only, ended-refused, ended-done, written-refused, written-passed}
+use Rattle.shapes.specs.Nests.{TreeOn}
+use Rattle.texts.specs.declared.text.Text.{Text}
+use Rattle.texts.specs.Text.{holding}
 use Rattle.kept.specs.declared.table.Table.{Table}
-use Rattle.kept.specs.View.{resultAt}
-use Rattle.kept.specs.Fit.{isFit}
-use Rattle.kept.specs.Rows.{shownRows, leafSet}
-use Rattle.kept.proofs.Laws.Fit.{FitTable, isFit→}
-use Rattle.drawing.specs.declared.marks.Members.{Members}
-use Rattle.drawing.specs.Marked.{membersTo, scoredTo, weightTo}
-use Rattle.drawing.specs.Draw.{leafRow, hasTree, leafMarks, membersOf, isSame, areScored, weighsBest, isDrawable, drawRefusal}
-use Rattle.drawing.specs.Gathered.{Holds}
-use Rattle.drawing.proofs.Laws.Front.{front-of-holds}
+use Rattle.kept.specs.Rows.{leafSet}
+use Rattle.kept.proofs.Laws.Fit.{isFit→}
+use Rattle.members.specs.Draw.{leafRow, membersOf, drawReasons}
+use Rattle.members.proofs.Drawn.{Drawable, drawable}
+use Rattle.drawing.specs.declared.drawing.DrawnText.{DrawnText}
+use Rattle.drawing.specs.Draw.{drawTree, leafText, TextAt, noText, textAt, drawnText, drawnTextOf, drawText}
+use Rattle.drawing.proofs.Tested.{tested-tree}
 
--- a number of 64 bits as the code has it
-abbrev word : ℤ → ℤ
-word z = toZ w64 (ofZ w64 z)
+-- ---- a table of which a tree is drawn
 
--- ---- a fit table
-module _ (t : Table) (fit : isFit narrow t ≡ true) where
-  facts : FitTable narrow t
-  facts = isFit→ narrow narrow-facts t (true-T fit)
+module _ (W : Width) (facts : WidthFacts W) {t : Table} (d : Drawable W t) where
+  pub tree-on : TreeOn (membersOf t) (leafSet t)
+  tree-on = tested-tree (W .taxa) (t .degree) (leafSet t) (membersOf t) (d .once) (d .sound) (facts .taxa) (true-T (d .tree))
 
-  pub rows-capped : t .rows ≤ rowCap
-  rows-capped = facts .capped
+  pub leaf-row-lt : leafRow t < rowCap
+  leaf-row-lt = omega (arith, d .row, isFit→ W facts t (true-T (d .fit)) .capped, facts .rows)
 
-  pub degree-some : 1 ≤ t .degree
-  degree-some = omega (arith, facts .low)
+-- ---- into a room
 
-  -- ---- a row that is the leaf set's: its marks, and all rows, are those that the definitions speak of
-  module _ (at : ℕ) (e : at ≡ leafRow t) where
-    leaf-marks : {A : Type 0} (f : ℕ → ℕ → A) → f (resultAt t at .members) (t .rows) ≡ f (leafMarks t) (shownRows t)
-    leaf-marks f = ap₂ (λ (i n : ℕ). f (resultAt t i .members) n) e (sym (min-eq-left rows-capped))
+module _ (W : Width) (t : Table) (l : List ℕ) where
+  pub tree-refused : {f : Refusal} → firstReason (drawReasons W t) ≡ some f → outcomeOf (Refused f) l ≡ drawTree W t l
+  unfolding drawTree
+  tree-refused {f} e = sym (written-refused (drawReasons W t) (membersOf t) l f e)
 
-    pub members-held : {r : Members} → Holds r (membersTo (t .clusters) (resultAt t at .members) (t .rows)) → Holds r (membersOf t)
-    members-held {r} h = subst (Holds r) (leaf-marks (membersTo (t .clusters))) h
+  pub tree-put : firstReason (drawReasons W t) ≡ none → written [] (membersOf t) l ≡ drawTree W t l
+  unfolding drawTree
+  tree-put e = sym (written-passed (drawReasons W t) (membersOf t) l e)
 
-    -- ---- the weight of the members
-    abbrev weight : ℤ
-    weight = weightTo (t .weights) (resultAt t at .members) (t .rows)
+  pub text-refused : {f : Refusal} → firstReason (drawReasons W t) ≡ some f → outcomeOf (Refused f) l ≡ drawText W t l
+  unfolding drawText
+  text-refused {f} e = sym (written-refused (drawReasons W t) (leafText t) l f e)
 
-    abbrev best : ℤ
-    best = resultAt t at .best
+  pub text-put : firstReason (drawReasons W t) ≡ none → written [] (leafText t) l ≡ drawText W t l
+  unfolding drawText
+  text-put e = sym (written-passed (drawReasons W t) (leafText t) l e)
 
-    module _ {w : ℤ} (sum : w ≡ weight) (fw : SFits w64 w) (fb : SFits w64 best) where
-      weighs-is : weighsBest t ≡ isSame (word w) (word best)
-      weighs-is =
-          sym (ap₂ isSame (toZ-ofZ fw ∙ sum ∙ leaf-marks (weightTo (t .weights))) (toZ-ofZ fb ∙ ap (λ (i : ℕ). resultAt t i .best) e))
+  pub tree-only : (a b : Answer) (x y : List ℕ) → outcomeOf a x ≡ drawTree W t l → outcomeOf b y ≡ drawTree W t l → (a ≡ b) × (x ≡ y)
+  tree-only = outcome-only
 
-      pub weighs-less : ltZ (word w) (word best) ≡ true → weighsBest t ≡ false
-      weighs-less h = weighs-is ∙ ap (λ (b : Bool). not b && not (ltZ (word best) (word w))) h
+  pub text-only : (a b : Answer) (x y : List ℕ) → outcomeOf a x ≡ drawText W t l → outcomeOf b y ≡ drawText W t l → (a ≡ b) × (x ≡ y)
+  text-only = outcome-only
 
-      pub weighs-other : ltZ (word w) (word best) ≡ false → weighsBest t ≡ not (ltZ (word best) (word w))
-      weighs-other h = weighs-is ∙ ap (λ (b : Bool). not b && not (ltZ (word best) (word w))) h
+-- ---- by value
 
-    -- ---- the tests of the marks
-    abbrev scored : Bool
-    scored = scoredTo (t .states) (resultAt t at .members) (t .rows)
+pub record TextDrawn (W : Width) (t : Table) (r : DrawnText) : Type 0 where
+  pub none : firstReason (drawReasons W t) ≡ none
+  pub table : Drawable W t
+  pub row : r .row ≡ leafRow t
+  pub text : r .text ≡ holding (leafText t)
 
-    scored-is : areScored t ≡ scored
-    scored-is = sym (leaf-marks (scoredTo (t .states)))
+module _ (W : Width) (t : Table) where
+  drawn-by : {o : Option Refusal} → firstReason (drawReasons W t) ≡ o → ended o noText (length (leafText t)) (textAt t) ≡ drawnText W t
+  unfolding drawnText
+  drawn-by e = ap (λ (o : Option Refusal). ended o noText (length (leafText t)) (textAt t)) (sym e)
 
-    pub drawable-unscored : scored ≡ false → isDrawable t ≡ false
-    drawable-unscored h =
-        ap (λ (b : Bool). b && isTree (narrow .taxa) (t .degree) (leafSet t) (membersOf t) && weighsBest t) (scored-is ∙ h)
+  pub drawn-text-refused : {f : Refusal} → firstReason (drawReasons W t) ≡ some f → outcomeOf (Refused f) noText ≡ drawnText W t
+  drawn-text-refused e = drawn-by e
 
-    module _ (h : scored ≡ true) {r : Members} {top : ℕ} (held : Holds r (membersOf t)) (q : top ≡ leafSet t) where
-      abbrev tree : Bool
-      tree = isTree (narrow .taxa) (t .degree) top (take (r .size) (r .clusters))
+  pub drawn-text-done : {n : ℕ} {x : Text} → firstReason (drawReasons W t) ≡ none → n ≡ leafRow t → x ≡ holding (leafText t)
+      → outcomeOf (Done (x .size)) (record { row = n; text = x }) ≡ drawnText W t
+  drawn-text-done e p q =
+      ap₂ (λ (n : ℕ) (x : Text). outcomeOf (Done (x .size)) (record { row = n; text = x })) p q ∙ drawn-by e
 
-      tests-are : isDrawable t ≡ (true && tree && weighsBest t)
-      tests-are =
-          ap₂ (λ (a b : Bool). a && b && weighsBest t) (scored-is ∙ h)
-          (sym (ap₂ (isTree (narrow .taxa) (t .degree)) q (front-of-holds held .front)))
+  module _ {r : DrawnText} (p : drawnTextOf r ≡ drawnText W t) where
+    ended-is : {a : Answer} → r .answer ≡ a
+        → ended (firstReason (drawReasons W t)) noText (length (leafText t)) (textAt t)
+        ≡ outcomeOf a (record { row = r .row; text = r .text })
+    ended-is h = drawn-by refl ∙ sym p ∙ ap (λ (a : Answer). outcomeOf a (record { row = r .row; text = r .text })) h
 
-      pub drawable-no-tree : tree ≡ false → isDrawable t ≡ false
-      drawable-no-tree k = tests-are ∙ ap (λ (b : Bool). b && weighsBest t) k
+    pub text→refused : {f : Refusal} → r .answer ≡ Refused f → firstReason (drawReasons W t) ≡ some f
+    text→refused {f} h = ended-refused (firstReason (drawReasons W t)) noText (length (leafText t)) (textAt t) f _ (ended-is h) .0
 
-      pub drawable-tree : tree ≡ true → isDrawable t ≡ weighsBest t
-      drawable-tree k = tests-are ∙ ap (λ (b : Bool). b && weighsBest t) k
+    pub text→drawn : WidthFacts W → {n : ℕ} → r .answer ≡ Done n → TextDrawn W t r
+    text→drawn facts {n} h =
+        let q = ended-done (firstReason (drawReasons W t)) noText (length (leafText t)) (textAt t) n _ (ended-is h) in record {
+          none = q .0;
+          table = drawable W facts t (q .0);
+          row = ap (λ (x : TextAt). x .row) (q .1);
+          text = ap (λ (x : TextAt). x .text) (q .1);
+        }
 
--- ---- whether there is a tree
-pub hasTree→ : (t : Table) → T (hasTree t) → (leafRow t < t .rows) × (resultAt t (leafRow t) .count ≢ 0)
-hasTree→ t h =
-    let q = T-and (ltb (leafRow t) (t .rows)) (not (eqb (resultAt t (leafRow t) .count) 0)) h in
-    (ltb→lt (leafRow t) (t .rows) (q .0), neq→ (resultAt t (leafRow t) .count) 0 (q .1))
-
-module _ (t : Table) (at : ℕ) (e : at ≡ leafRow t) where
-  abbrev hasCount : ℕ → Bool
-  hasCount i = ltb i (t .rows) && not (eqb (resultAt t i .count) 0)
-
-  hasTree-at : hasTree t ≡ hasCount at
-  hasTree-at = ap hasCount (sym e)
-
-  pub hasTree-no-row : t .rows ≤ at → hasTree t ≡ false
-  hasTree-no-row h = hasTree-at ∙ ap (λ (b : Bool). b && not (eqb (resultAt t at .count) 0)) (le-ltb at (t .rows) h)
-
-  pub hasTree-no-count : resultAt t at .count ≡ 0 → hasTree t ≡ false
-  hasTree-no-count h = hasTree-at ∙ ap (λ (b : Bool). ltb at (t .rows) && not b) (eq-eqb _ _ h) ∙ and-false (ltb at (t .rows))
-
-  pub hasTree-count : at < t .rows → resultAt t at .count ≢ 0 → hasTree t ≡ true
-  hasTree-count h k = hasTree-at ∙ ap₂ (λ (a b : Bool). a && not b) (lt-ltb at (t .rows) h) (ne-eqb _ _ k)
-
--- ---- the refusals
-module _ (t : Table) where
-  pub refusal-unfit : isFit narrow t ≡ false → drawRefusal t ≡ some Unfit
-  refusal-unfit e = rw e
-
-  pub refusal-no-tree : isFit narrow t ≡ true → hasTree t ≡ false → drawRefusal t ≡ some NoTree
-  refusal-no-tree e f = rw (e, f)
-
-  pub refusal-marks : isFit narrow t ≡ true → hasTree t ≡ true → isDrawable t ≡ false → drawRefusal t ≡ some Unfit
-  refusal-marks e f g = rw (e, f, g)
-
-  pub refusal-none : isFit narrow t ≡ true → hasTree t ≡ true → isDrawable t ≡ true → drawRefusal t ≡ none
-  refusal-none e f g = rw (e, f, g)
+  pub drawn-text-only : (x y : DrawnText) → drawnTextOf x ≡ drawnText W t → drawnTextOf y ≡ drawnText W t → x ≡ y
+  drawn-text-only x y p q =
+      let e = outcome-only (x .answer) (y .answer) _ _ p q in
+      ap₂ (λ (a : Answer) (z : TextAt). record { answer = a; row = z .row; text = z .text }) (e .0) (e .1)

@@ -1,273 +1,189 @@
 -- The line of a table, of a list, and what asking for it gives: for each way out of the code, and how long a line can be.
---     size-le-narrow                     a narrow cluster has 32 taxa at most
---     leaf-row-lt                        the leaf set's row is one of 128, where a tree is drawn
---     tree-count-le, tree-best-le        its count and its best
 --     table-refused, table-drawn         the line of a table, refused or drawn
---     tableLine-length-le                it has 172 bytes at most
---     table-refused-fits, table-drawn-fits     and a room of 172 is one for it
---     told-refused, told-drawn           what asking a table for its text tells
 --     built-refused, built-done          the line of a list, by what its build sends back
---     degree-lt                          an accepted degree bound has one figure
---     line-length-le                     the line of a list has 172 bytes at most
---     refused-fits                       and a room of 172 is one for a refusal's
---     line-front                         a line put at the start of a room is the first bytes of it
---     line-short, line-put               asking for a line: too short a room, and the line
+--     line-length-le                     the line of a list has no more than `lineCap` bytes
+--     line-held                          so a text has room for it
+--     line-put                           asking for a line is putting it into the room
 --     line-told                          no more bytes are told than there is room
 --     line-only                          two answers with rooms that the promise allows are equal
 -- Assumes nothing.
-use mathlib.Core.Path.{_≡_, refl, sym, ap, ap₂, _∙_}
-use mathlib.Core.Bool.{Bool, true, false, not, cond, true≢false}
-use mathlib.Core.List.{List, _++_, map}
+use mathlib.Core.Path.{_≡_, refl, sym, ap, _∙_}
+use mathlib.Core.List.{List, []}
 use mathlib.Core.Option.{Option, none, some}
-use Prim.Native.Nat.{ℕ, _+_, _^_, _≤_, _<_}
-use native.Mathlib.Decide.{decLe, ℕ-discrete}
-use native.Mathlib.Nat.{le-refl}
+use Prim.Native.Nat.{ℕ, _^_, _≤_, _<_}
 use native.Mathlib.Omega.{arith}
-use borrow.Author.Tests.{le-leb, lt-leb}
 use lib.Count.{ones-le}
-use lib.Dec.{eqb, lit≤}
+use lib.Dec.{T, ltb, ltb→lt, nltb→le, not-T}
 use lib.IntN.{pos, natAbs}
-use lib.ListN.{length, getD, take, drop}
-use lib.Seq.{sets, sets-eq, take-all}
+use lib.ListN.{length, getD}
 use mir.Facts.{toZ-ofZ}
 use mir.Syntax.{w64}
 use mir.Val.{SFits, toZ, ofZ}
-use Rattle.laws.specs.Cluster.{size}
-use Rattle.laws.specs.Limits.{narrow, rowCap}
-use Rattle.laws.proofs.Tests.{true-T}
+use Rattle.laws.specs.Limits.{narrow, degreeHigh, isDegree}
+use Rattle.laws.proofs.Integers.{mag-le-abs}
+use Rattle.laws.proofs.Tests.{true-T, T-of-not}
 use Rattle.laws.proofs.Width.{narrow-facts}
 use Rattle.cluster.specs.declared.refusal.Answer.{Answer}
 use Rattle.cluster.specs.declared.refusal.Answer.the-variants.{Done, Refused}
 use Rattle.cluster.specs.declared.refusal.Refusal.{Refusal}
-use Rattle.cluster.specs.declared.refusal.Refusal.the-variants.{NoBytes, WrongLength, TooLong, DegreeOut, BadRecord, Repeated}
-use Rattle.cluster.specs.declared.refusal.Refusal.the-variants.{NoTree, Unfit, NoRow, BadScore, NoRoom}
-use Rattle.cluster.specs.Refusal.{numberOf, positionOf, sentOf}
-use Rattle.cluster.specs.Writing.{Wrote, wroteOf}
-use Rattle.cluster.proofs.Laws.Writing.{wroteOf-inj}
-use Rattle.trees.specs.Rows.{cl}
+use Rattle.cluster.specs.Refusal.{positionOf, sentOf}
+use Rattle.cluster.specs.Reasons.{firstReason}
+use Rattle.cluster.specs.Outcome.{Outcome, outcomeOf, ended, written}
+use Rattle.cluster.proofs.Laws.Outcome.{outcome-only, ended-refused, ended-done, written-told}
+use Rattle.cluster.proofs.Laws.Reasons.{Each, first-each, none-iff}
+use Rattle.lists.specs.Records.{recordsIn, rowsOf, firstBad, firstRepeat}
+use Rattle.trees.specs.Result.{Result}
+use Rattle.trees.specs.Built.{builtTable}
+use Rattle.shapes.proofs.Theorems.{text-length}
+use Rattle.texts.specs.declared.text.Text.{Text}
+use Rattle.texts.specs.Text.{holding, withBytes}
+use Rattle.texts.proofs.Laws.{text-held}
 use Rattle.kept.specs.declared.table.Table.{Table}
-use Rattle.kept.specs.View.{rowAt, resultAt, entryAt, entriesOf}
-use Rattle.kept.specs.Fit.{isFit}
+use Rattle.kept.specs.View.{rowAt, resultAt, entryAt, clustersIn, tableOf, zeroTable}
+use Rattle.kept.specs.Rows.{leafSet}
 use Rattle.kept.proofs.Laws.Fit.{FitRow, isFit→, fit→}
-use Rattle.table.specs.declared.making.Built.{Built}
-use Rattle.table.specs.Build.{Making, makingOf, refusalOf, buildTable}
-use Rattle.table.proofs.Acceptance.{accepts-iff, refuses-iff}
-use Rattle.table.proofs.Laws.Accepted.{Why}
-use Rattle.table.proofs.Laws.Build.{build-of}
-use Rattle.drawing.specs.Draw.{leafRow, hasTree, isDrawable, drawRefusal, drawText}
-use Rattle.drawing.specs.Gathered.{textCap}
-use Rattle.drawing.proofs.Laws.Weighed.{near-fits}
-use Rattle.drawing.proofs.Laws.Front.{Front, front-of-append, front-of-stored}
-use Rattle.drawing.proofs.Laws.Outcome.{drawnText, Drawable, drawable, text-fits, text-refused, text-drawn}
+use Rattle.table.specs.Build.{buildReasons, buildTable}
+use Rattle.table.proofs.Laws.Build.{build-of, degree-range}
+use Rattle.members.specs.Draw.{leafRow, membersOf, drawReasons}
+use Rattle.members.proofs.Drawn.{Drawable, drawable}
+use Rattle.drawing.specs.Draw.{leafText}
+use Rattle.drawing.proofs.Laws.Draw.{tree-on}
 use Rattle.report.specs.Words.{refusedLine, treeLine}
-use Rattle.report.specs.Line.{lineCap, drawnLine, tableLine, builtLine, lineOf, lineInto}
-use Rattle.report.proofs.Laws.Words.{treeLine-length-le, refusedLine-length-le}
+use Rattle.report.specs.Line.{lineCap, lineFor, tableLine, lineOf, lineInto}
+use Rattle.report.proofs.Laws.Words.{bestMax, treeLine-length-le, refusedLine-length-le}
 
 -- ---- the row of the leaf set, where a tree is drawn
 
-pub size-le-narrow : (c : ℕ) → c < 2 ^ narrow .taxa → size c ≤ 32
-size-le-narrow c h = ones-le 32 c h
+module _ {t : Table} (d : Drawable narrow t) where
+  abbrev leaf : Result
+  leaf = resultAt t (leafRow t)
 
-module _ {t : Table} (d : Drawable t) where
-  leaf-row : FitRow narrow (map cl (entriesOf t (t .rows))) (rowAt t (leafRow t)) (resultAt t (leafRow t))
-  leaf-row = fit→ narrow (map cl (entriesOf t (t .rows))) (entryAt t (leafRow t)) (isFit→ narrow narrow-facts t (true-T (d .fit)) .fit (leafRow t) (d .row))
+  leaf-row : FitRow narrow (clustersIn t) (rowAt t (leafRow t)) leaf
+  leaf-row = fit→ narrow (clustersIn t) (entryAt t (leafRow t)) (isFit→ narrow narrow-facts t (true-T (d .fit)) .fit (leafRow t) (d .row))
 
-  pub leaf-row-lt : leafRow t < rowCap
-  leaf-row-lt = omega (arith, d .row, isFit→ narrow narrow-facts t (true-T (d .fit)) .capped)
+  tree-best-le : natAbs (leaf .best) ≤ bestMax
+  tree-best-le =
+      let taxa = ones-le (narrow .taxa) (rowAt t (leafRow t) .cluster) (leaf-row .width) in
+      omega (arith, leaf-row .matched .light (d .counted), taxa)
 
-  pub tree-count-le : resultAt t (leafRow t) .count ≤ 4294967295
-  tree-count-le = leaf-row .ranged .counted
+  tree-best-fits : SFits w64 (leaf .best)
+  tree-best-fits = record { sfits = omega (arith, mag-le-abs (leaf .best), tree-best-le) }
 
-  pub tree-best-le : natAbs (resultAt t (leafRow t) .best) ≤ 63000000
-  tree-best-le = go (ℕ-discrete (resultAt t (leafRow t) .count) 0)
-    where
-      go : Dec (resultAt t (leafRow t) .count ≡ 0) → natAbs (resultAt t (leafRow t) .best) ≤ 63000000
-      go (yes e) = omega (arith, ap natAbs (leaf-row .matched .none e .2))
-      go (no n) = omega (arith, leaf-row .matched .light n, size-le-narrow (rowAt t (leafRow t) .cluster) (leaf-row .width))
-
-  tree-best-fits : SFits w64 (resultAt t (leafRow t) .best)
-  tree-best-fits = near-fits (resultAt t (leafRow t) .best) 1 (lit≤ tt) (omega (arith, tree-best-le))
+  text-short : length (leafText t) ≤ narrow .textBytes
+  text-short =
+      let tree = tree-on narrow narrow-facts d in
+      text-length (membersOf t) (leafSet t) tree narrow narrow-facts (d .sound (leafSet t) (tree .top) .1)
 
 -- ---- the line of a table
 
-pub table-refused : (d : ℕ) (t : Table) {f : Refusal} → drawRefusal t ≡ some f → tableLine d t ≡ refusedLine d (sentOf (Refused f))
-table-refused d t e = ap (drawnLine d t) e
+-- a position is a number of 64 bits
+abbrev Placed : Refusal → Type 0
+Placed f = positionOf f < 2 ^ 64
 
--- as the code reads the row
-pub table-drawn : (d : ℕ) (t : Table) {i : ℕ} {text : List ℕ} → drawRefusal t ≡ none → i ≡ leafRow t → text ≡ drawnText t
-    → tableLine d t ≡ treeLine d (getD (t .counts) i 0) (getD (t .marks) i 0) (toZ w64 (ofZ w64 (getD (t .bests) i (pos 0)))) text
-table-drawn d t e r f = rw (r, f, toZ-ofZ (tree-best-fits (drawable t e))) (ap (drawnLine d t) e)
+draw-placed : (t : Table) → Each Placed (drawReasons narrow t)
+draw-placed t = (λ _. omega arith, λ _. (λ _. omega arith, λ _. (λ _. omega arith, λ _. tt)))
 
--- the refusals of drawing tell no position
-abbrev placeIn : Option Refusal → ℕ
-placeIn (some f) = positionOf f
-placeIn none = 0
+module _ (d : ℕ) (t : Table) where
+  abbrev drawnLine : List ℕ
+  drawnLine = let v = resultAt t (leafRow t) in treeLine d (v .count) (v .mark) (v .best) (leafText t)
 
-no-place : (a b c : Bool)
-    → placeIn (cond (not a) (some Unfit) (cond (not b) (some NoTree) (cond (not c) (some Unfit) none))) ≡ 0
-no-place false b c = refl
-no-place true false c = refl
-no-place true true false = refl
-no-place true true true = refl
+  pub table-refused : {f : Refusal} → firstReason (drawReasons narrow t) ≡ some f → refusedLine d (sentOf (Refused f)) ≡ tableLine d t
+  table-refused e = ap (λ (o : Option Refusal). lineFor d o drawnLine) (sym e)
 
-pub tableLine-length-le : (d : ℕ) (t : Table) → d < 10 → length (tableLine d t) ≤ lineCap
-tableLine-length-le d t h = go (drawRefusal t) refl
-  where
-    go : (x : Option Refusal) → drawRefusal t ≡ x → length (drawnLine d t x) ≤ lineCap
-    go (some f) e =
-        refusedLine-length-le d f (omega arith) (omega (arith, ap placeIn (sym e) ∙ no-place (isFit narrow t) (hasTree t) (isDrawable t)))
-    go none e =
-        let v = resultAt t (leafRow t) in
-        let k = drawable t e in
-        treeLine-length-le d (v .count) (v .mark) (v .best) (drawnText t) h (tree-count-le k) (tree-best-le k) (text-fits k)
+  -- as the code reads the row
+  pub table-drawn : {i : ℕ} {text : List ℕ} → firstReason (drawReasons narrow t) ≡ none → i ≡ leafRow t → text ≡ leafText t
+      → treeLine d (getD (t .counts) i 0) (getD (t .marks) i 0) (toZ w64 (ofZ w64 (getD (t .bests) i (pos 0)))) text ≡ tableLine d t
+  table-drawn e r f =
+      rw (r, f, toZ-ofZ (tree-best-fits (drawable narrow narrow-facts t e))) (ap (λ (o : Option Refusal). lineFor d o drawnLine) (sym e))
 
--- a room for every line is one for these
-module _ (d : ℕ) (t : Table) {n : ℕ} (h : d < 10) (k : lineCap ≤ n) where
-  pub table-refused-fits : {f : Refusal} → drawRefusal t ≡ some f → length (refusedLine d (sentOf (Refused f))) ≤ n
-  table-refused-fits e = omega (arith, ap length (table-refused d t e), tableLine-length-le d t h)
-
-  pub table-drawn-fits : {i : ℕ} {text : List ℕ} → drawRefusal t ≡ none → i ≡ leafRow t → text ≡ drawnText t
-      → length (treeLine d (getD (t .counts) i 0) (getD (t .marks) i 0) (toZ w64 (ofZ w64 (getD (t .bests) i (pos 0)))) text) ≤ n
-  table-drawn-fits e r f = omega (arith, ap length (table-drawn d t e r f), tableLine-length-le d t h)
-
--- ---- what asking a table for its text tells, in a room that is long enough for every text
-
-module _ (t : Table) (room : List ℕ) {l : List ℕ} {a : Answer} (long : length room ≡ textCap) (p : wroteOf a l ≡ drawText t room) where
-  text-done : drawRefusal t ≡ none → let out = drawnText t in (a ≡ Done (length out)) × (l ≡ out ++ drop (length out) room)
-  text-done e =
-      let out = drawnText t in
-      let all : take (length out) out ≡ out = take-all (length out) out (le-refl (length out)) in
-      let f : Front out (length out) out = record { told = refl; front = all; fits = le-refl (length out) } in
-      let whole = ap (λ (o : List ℕ). o ++ drop (length o) room) (sym all) in
-      wroteOf-inj a (Done (length out)) l (out ++ drop (length out) room)
-      (p ∙ sym (text-drawn t room e f (omega (arith, text-fits (drawable t e))) whole))
-
-  text-none : {f : Refusal} → drawRefusal t ≡ some f → a ≡ Refused f
-  text-none {f} e = wroteOf-inj a (Refused f) l room (p ∙ sym (text-refused t room e)) .0
-
-  pub told-refused : {f : Refusal} → a ≡ Refused f → drawRefusal t ≡ some f
-  told-refused {f} r = go (drawRefusal t) refl
+  tableLine-length-le : d < 10 → length (tableLine d t) ≤ lineCap
+  tableLine-length-le h = go (firstReason (drawReasons narrow t)) refl
     where
-      go : (x : Option Refusal) → drawRefusal t ≡ x → x ≡ some f
-      go (some g) e = let q = text-none e in cc
-      go none e = let q = text-done e .0 in let z : _≡_ {A = ℕ} 0 1 = cc in absurd (omega arith)
-
-  pub told-drawn : {n : ℕ} → a ≡ Done n → (drawRefusal t ≡ none) × Front (drawnText t) n l
-  told-drawn {n} r = go (drawRefusal t) refl
-    where
-      go : (x : Option Refusal) → drawRefusal t ≡ x → (x ≡ none) × Front (drawnText t) n l
-      go (some g) e = let q = text-none e in let z : _≡_ {A = ℕ} 0 1 = cc in absurd (omega arith)
+      go : (o : Option Refusal) → firstReason (drawReasons narrow t) ≡ o → length (lineFor d o drawnLine) ≤ lineCap
+      go (some f) e =
+          omega (arith, refusedLine-length-le d f (omega arith) (first-each Placed (drawReasons narrow t) (draw-placed t) f e))
       go none e =
-          let out = drawnText t in
-          let q = text-done e in
-          let told : n ≡ length out = let s = q .0 in cc in
-          (refl, front-of-append out (drop (length out) room) (q .1) told)
+          let k = drawable narrow narrow-facts t e in
+          let v = resultAt t (leafRow t) in
+          let line = treeLine-length-le d (v .count) (v .mark) (v .best) (leafText t) h (leaf-row k .ranged .counted) (tree-best-le k) in
+          omega (arith, line, text-short k)
 
 -- ---- the line of a list, by what its build sends back
 
-number-some : (f : Refusal) → eqb (numberOf f) 0 ≡ false
-number-some NoBytes = refl
-number-some WrongLength = refl
-number-some TooLong = refl
-number-some DegreeOut = refl
-number-some (BadRecord i) = refl
-number-some (Repeated i) = refl
-number-some NoTree = refl
-number-some Unfit = refl
-number-some NoRow = refl
-number-some BadScore = refl
-number-some NoRoom = refl
-
-sent-refused : (d : ℕ) (f : Refusal) (t : Table)
-    → builtLine d (record { sent = sentOf (Refused f); table = t }) ≡ refusedLine d (sentOf (Refused f))
-sent-refused d f t = rw (number-some f)
-
 module _ (l : List ℕ) (d : ℕ) where
-  line-of : {m : Making} → m ≡ buildTable l d → lineOf l d ≡ builtLine d m
+  abbrev builtLine : List ℕ
+  builtLine = tableLine d (buildTable narrow l d .given)
+
+  line-by : {o : Option Refusal} → firstReason (buildReasons narrow l d) ≡ o → lineFor d o builtLine ≡ lineOf l d
   unfolding lineOf
-  line-of e = ap (builtLine d) (sym e)
+  line-by e = ap (λ (o : Option Refusal). lineFor d o builtLine) (sym e)
 
-  module _ {b : Built} (p : makingOf b ≡ buildTable l d) where
-    pub built-refused : {f : Refusal} → b .answer ≡ Refused f → lineOf l d ≡ refusedLine d (sentOf (Refused f))
-    built-refused {f} e =
-        line-of p ∙ ap (λ (a : Answer). builtLine d (record { sent = sentOf a; table = b .table })) e ∙ sent-refused d f (b .table)
+  abbrev table : Table
+  table = tableOf d (builtTable narrow d (rowsOf narrow l))
 
-    pub built-done : {n : ℕ} → b .answer ≡ Done n → lineOf l d ≡ tableLine d (b .table)
-    built-done e = line-of p ∙ ap (λ (a : Answer). builtLine d (record { sent = sentOf a; table = b .table })) e
+  module _ {a : Answer} {t : Table} (p : outcomeOf a t ≡ buildTable narrow l d) where
+    ends : {b : Answer} → a ≡ b → ended (firstReason (buildReasons narrow l d)) zeroTable 0 table ≡ outcomeOf b t
+    ends e = sym (build-of narrow l d refl) ∙ sym p ∙ ap (λ (b : Answer). outcomeOf b t) e
 
-    pub degree-lt : {n : ℕ} → b .answer ≡ Done n → d < 10
-    degree-lt {n} e = go (refusalOf l d) refl
-      where
-        go : (x : Option Refusal) → refusalOf l d ≡ x → d < 10
-        go none r = omega (arith, accepts-iff l d .0 r .whole .takes)
-        go (some f) r =
-            let same = ap (λ (m : Making). m .sent .number) (p ∙ build-of l d r) in
-            let told : numberOf f ≡ 0 = sym same ∙ ap (λ (a : Answer). sentOf a .number) e in
-            let z : true ≡ false = sym (ap (λ (k : ℕ). eqb k 0) told) ∙ number-some f in absurd (true≢false z)
+    pub built-refused : {f : Refusal} → a ≡ Refused f → refusedLine d (sentOf (Refused f)) ≡ lineOf l d
+    built-refused {f} e = line-by (ended-refused (firstReason (buildReasons narrow l d)) zeroTable 0 table f t (ends e) .0)
+
+    pub built-done : {n : ℕ} → a ≡ Done n → tableLine d t ≡ lineOf l d
+    built-done {n} e =
+        ap (tableLine d) (ap (λ (o : Outcome Table). o .given) p)
+        ∙ line-by (ended-done (firstReason (buildReasons narrow l d)) zeroTable 0 table n t (ends e) .0)
 
 -- ---- how long it can be
 
-why-place : (l : List ℕ) (d : ℕ) (f : Refusal) → Why l d f → positionOf f < 2 ^ 64
-why-place l d NoBytes y = omega arith
-why-place l d WrongLength y = omega arith
-why-place l d TooLong y = omega arith
-why-place l d DegreeOut y = omega arith
-why-place l d (BadRecord i) y = omega (arith, y .0 .short, y .1)
-why-place l d (Repeated i) y = omega (arith, y .0 .short, y .2)
-why-place l d NoTree y = absurd y
-why-place l d Unfit y = absurd y
-why-place l d NoRow y = absurd y
-why-place l d BadScore y = absurd y
-why-place l d NoRoom y = absurd y
+build-placed : (l : List ℕ) (d : ℕ) → Each Placed (buildReasons narrow l d)
+build-placed l d = (
+  λ _. omega arith,
+  λ _. (
+    λ _. omega arith,
+    λ _. (
+      λ _. omega arith,
+      λ n. (
+        λ _. omega arith,
+        λ _. (
+          (λ h. within (firstBad narrow l) (short n) h),
+          λ _. ((λ h. within (firstRepeat narrow l) (short n) h), λ _. tt),
+        ),
+      ),
+    ),
+  ),
+)
+  where
+    short : (T (ltb (narrow .listBytes) (length l)) → ⊥) → length l ≤ narrow .listBytes
+    short n = nltb→le (narrow .listBytes) (length l) (not-T (ltb (narrow .listBytes) (length l)) n)
+
+    within : (i : ℕ) → length l ≤ narrow .listBytes → T (ltb i (recordsIn narrow l)) → i < 2 ^ 64
+    within i k h = omega (arith, ltb→lt i (recordsIn narrow l) h)
 
 pub line-length-le : (l : List ℕ) (d : ℕ) → d < 2 ^ 32 → length (lineOf l d) ≤ lineCap
-line-length-le l d h = go (refusalOf l d) refl
+line-length-le l d h = go (firstReason (buildReasons narrow l d)) refl
   where
-    go : (x : Option Refusal) → refusalOf l d ≡ x → length (lineOf l d) ≤ lineCap
+    go : (o : Option Refusal) → firstReason (buildReasons narrow l d) ≡ o → length (lineOf l d) ≤ lineCap
     go (some f) e =
-        rw (line-of l d (sym (build-of l d e)) ∙ sent-refused d f _)
-        (refusedLine-length-le d f h (why-place l d f (refuses-iff l d f .0 e)))
+        let place = first-each Placed (buildReasons narrow l d) (build-placed l d) f e in
+        omega (arith, ap length (line-by l d e), refusedLine-length-le d f h place)
     go none e =
-        rw (line-of l d (sym (build-of l d e))) (tableLine-length-le d _ (omega (arith, accepts-iff l d .0 e .whole .takes)))
+        let taken : d ≤ degreeHigh = degree-range (T-of-not (isDegree d) (none-iff (buildReasons narrow l d) .0 e .0)) .1 in
+        omega (arith, ap length (line-by l d e), tableLine-length-le d (buildTable narrow l d .given) (omega arith))
 
--- a room for every line is one for a refusal's
-pub refused-fits : (l : List ℕ) (d : ℕ) {b : Built} {f : Refusal} {n : ℕ} → d < 2 ^ 32 → lineCap ≤ n → makingOf b ≡ buildTable l d
-    → b .answer ≡ Refused f → length (refusedLine d (sentOf (Refused f))) ≤ n
-refused-fits l d h k p e = omega (arith, ap length (built-refused l d p e), line-length-le l d h)
+pub line-held : (l : List ℕ) (d : ℕ) → d < 2 ^ 32 → {t : Text} → t ≡ withBytes (holding []) (lineOf l d) → t ≡ holding (lineOf l d)
+line-held l d h e = e ∙ text-held (lineOf l d) (omega (arith, line-length-le l d h))
 
 -- ---- asking for it
 
-module _ (l : List ℕ) (d : ℕ) where
-  pub line-front : (bytes : List ℕ) {n : ℕ} {s : List ℕ} → d < 2 ^ 32 → length bytes ≡ lineCap → s ≡ sets bytes 0 (lineOf l d)
-      → n ≡ length (lineOf l d) → Front (lineOf l d) n s
-  line-front bytes h k e q = rw e (front-of-stored bytes (lineOf l d) (omega (arith, line-length-le l d h)) q)
+module _ (l : List ℕ) (d : ℕ) (room : List ℕ) where
+  pub line-put : written [] (lineOf l d) room ≡ lineInto l d room
+  unfolding lineInto
+  line-put = refl
 
-  module _ (room : List ℕ) where
-    pub line-short : {n : ℕ} → n ≡ length (lineOf l d) → length room < n → wroteOf (Refused NoRoom) room ≡ lineInto l d room
-    unfolding lineInto
-    line-short e h = rw (lt-leb (length (lineOf l d)) (length room) (omega arith))
+  pub line-told : {a : Answer} {n : ℕ} {m : List ℕ} → outcomeOf a m ≡ lineInto l d room → a ≡ Done n → n ≤ length room
+  line-told {a} {n} {m} e r =
+      let q = written-told [] (lineOf l d) room n m (ap (λ (b : Answer). outcomeOf b m) (sym r) ∙ e ∙ sym line-put) in
+      omega (arith, q .0, q .1)
 
-    pub line-put : {n : ℕ} {s m : List ℕ} → Front (lineOf l d) n s → n ≤ length room → m ≡ sets room 0 (take n s)
-        → wroteOf (Done n) m ≡ lineInto l d room
-    unfolding lineInto
-    line-put f h e =
-        let out = lineOf l d in
-        let long : length out ≤ length room = omega (arith, f .told) in
-        let start : 0 + length out ≡ length out = omega arith in
-        let stored = sets-eq out room 0 (omega arith) ∙ ap (λ (k : ℕ). out ++ drop k room) start in
-        let put = e ∙ ap (sets room 0) (f .front) ∙ stored in
-        rw (le-leb (length out) (length room) long) (ap₂ wroteOf (ap Done (f .told)) put)
-
-    pub line-told : {a : Answer} {n : ℕ} {m : List ℕ} → wroteOf a m ≡ lineInto l d room → a ≡ Done n → n ≤ length room
-    unfolding lineInto
-    line-told {n = n} e r = go (decLe (length (lineOf l d)) (length room))
-      where
-        told : n ≡ lineInto l d room .sent .told
-        told = sym (ap (λ (x : Answer). sentOf x .told) r) ∙ ap (λ (w : Wrote). w .sent .told) e
-
-        go : Dec (length (lineOf l d) ≤ length room) → n ≤ length room
-        go (yes h) = let k = le-leb (length (lineOf l d)) (length room) h in omega (arith, rw k at told)
-        go (no h) = let k = lt-leb (length (lineOf l d)) (length room) (omega arith) in omega (arith, rw k at told)
-
-    pub line-only : (a b : Answer) (m k : List ℕ) → wroteOf a m ≡ lineInto l d room → wroteOf b k ≡ lineInto l d room → (a ≡ b) × (m ≡ k)
-    line-only a b m k p q = wroteOf-inj a b m k (p ∙ sym q)
+  pub line-only : (a b : Answer) (x y : List ℕ) → outcomeOf a x ≡ lineInto l d room → outcomeOf b y ≡ lineInto l d room → (a ≡ b) × (x ≡ y)
+  line-only = outcome-only

@@ -1,50 +1,71 @@
 -- `drawing::drawing::tree` meets its contract: each return is one way out of drawing. Assumes nothing.
+use mathlib.Core.Path.{refl, sym, ap, ap₂, _∙_}
+use mathlib.Core.List.{List, [], _++_}
+use Prim.Native.Nat.{ℕ}
+use native.Mathlib.Omega.{arith}
 use borrow.Author.Needs.{needs}
-use mathlib.Core.Option.{none}
-use mathlib.Core.Path.{_≡_}
+use denote.Ref.{now}
+use lib.ListN.{length, drop}
+use Rattle.laws.specs.Limits.{narrow}
+use Rattle.laws.proofs.Width.{narrow-facts}
+use Rattle.cluster.specs.declared.refusal.Answer.the-variants.{Done}
+use Rattle.cluster.specs.Outcome.{outcomeOf}
+use Rattle.cluster.proofs.Laws.Outcome.{written-short, written-whole}
 use Rattle.kept.specs.declared.table.Table.{Table}
-use Rattle.drawing.specs.Draw.{membersOf, drawRefusal}
-use Rattle.drawing.proofs.Laws.Front.{Front, front-count, front-of-holds}
-use Rattle.drawing.proofs.Laws.Outcome.{checked-refused, checked-done, drawable, tree-refused, tree-short, tree-drawn, tree-requires}
+use Rattle.members.specs.Draw.{membersOf}
+use Rattle.members.proofs.Drawn.{Success, drawn-refused, drawn-done}
+use Rattle.drawing.proofs.Laws.Draw.{tree-refused, tree-put}
 use Rattle.drawing.proofs.drawing.tree.Statement.{statement}
 use Rattle.drawing.proofs.drawing.tree.Tie as tie
 
--- nothing is refused once the check is done
-abbrev table : tie.After-enum-told → Table
-table c = c .before .before .before .before .args .t
+-- what was asked, where nothing is refused
+module _ (c : tie.After-enum-told) where
+  abbrev start : tie.Start
+  start = let asked = c .before .before in asked .before .before
 
-allowed : (c : tie.After-enum-told) → drawRefusal (table c) ≡ none
-allowed c = checked-done _ (c .before .before .checked .ensures) (c .enum-told .given .1)
+  abbrev table : Table
+  table = start .args .t
 
--- the members are the first of the array
-gathered : (c : tie.After-leaf-members) → let r = c .leaf-members .result in Front (membersOf (table (c .before))) (r .size) (r .clusters)
-gathered c = front-of-holds (c .leaf-members .ensures)
+  abbrev room : List ℕ
+  room = now (start .args .room)
+
+  drawn : Success narrow table (c .before .before .drawn-tree .result)
+  drawn = drawn-done narrow table narrow-facts (c .before .before .drawn-tree .ensures) (c .enum-told .given .1)
 
 returns : tie.Need-returns
-returns c = tree-refused _ _ (checked-refused _ (c .before .before .before .checked .ensures) (c .before .answer .given .1))
-
-leaf-members-requires : tie.Need-leaf-members-requires
-leaf-members-requires c κs = let d = drawable _ (allowed c) in (d .fit, d .row)
+returns c =
+    let asked = c .before .before .before in
+    tree-refused narrow _ _ (drawn-refused narrow _ (asked .drawn-tree .ensures) (c .before .answer .given .1))
 
 returns-2 : tie.Need-returns-2
-returns-2 c = tree-short _ _ (allowed (c .before .before)) (gathered (c .before)) (c .if1 .taken)
+returns-2 c =
+    let told = c .before in
+    sym (written-short [] (membersOf (table told)) (room told) refl (omega (arith, drawn told .size, c .if1 .taken)))
+    ∙ tree-put narrow (table told) (room told) (drawn told .none)
 
 array-share-prefix-xs : tie.Need-array-share-prefix-xs
-array-share-prefix-xs c = gathered (c .before .before) .fits
+array-share-prefix-xs c = drawn (c .before .before) .fits
 
 slice-aggregate-put-clusters : tie.Need-slice-aggregate-put-clusters
-slice-aggregate-put-clusters c = front-count (gathered (c .before .before .before))
+slice-aggregate-put-clusters c = let d = drawn (c .before .before .before) in d .size ∙ ap length (sym (d .front))
 
 put-clusters-requires : tie.Need-put-clusters-requires
 put-clusters-requires c κs =
-    let at-room = c .before .before .before in
-    tree-requires (drawable _ (allowed (at-room .before .before))) (gathered (at-room .before)) (at-room .if1 .left)
+    let test = c .before .before .before in
+    let d = drawn (test .before) in
+    rw (d .front) (omega (arith, d .size, test .if1 .left), λ x m. d .table .sound x m .1)
 
 returns-3 : tie.Need-returns-3
 returns-3 c =
-    let copied = c .before .before in
-    let at-room = copied .before .before .before .before in
-    tree-drawn _ _ (allowed (at-room .before .before)) (gathered (at-room .before)) (at-room .if1 .left) (copied .put-clusters .ensures)
+    let put = c .before .before in
+    let test = put .before .before .before .before in
+    let told = test .before in
+    let d = drawn told in
+    let xs = membersOf (table told) in
+    let whole = ap (λ (o : List ℕ). o ++ drop (length o) (room told)) (d .front) in
+    ap₂ outcomeOf (ap Done (d .size)) (put .put-clusters .ensures ∙ whole)
+    ∙ sym (written-whole [] xs (room told) refl (omega (arith, d .size, test .if1 .left)))
+    ∙ tree-put narrow (table told) (room told) (d .none)
 
 pub tree-spec : {M : Type 1} → statement M
 tree-spec =
@@ -54,7 +75,6 @@ tree-spec =
     (λ c. search needs)
     returns
     (λ c. search needs)
-    leaf-members-requires
     returns-2
     array-share-prefix-xs
     slice-aggregate-put-clusters

@@ -1,0 +1,2 @@
+-- Texts in the making.
+pub mod Text
