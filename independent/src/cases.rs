@@ -5,7 +5,7 @@
 use crate::answer::{Oracle, Origin};
 use crate::blocks::Made;
 use crate::broken::{BREAKS, Change, EDGES};
-use crate::formulas::Edit;
+use crate::given::{Case, Given, built, random_edits};
 use crate::limits::random_made;
 use crate::lists::{random_list, weight};
 use crate::newick::{drawn_tree, line, text};
@@ -17,14 +17,6 @@ use crate::stream::{Ask, OPERATIONS};
 use crate::table::Table;
 use crate::unbuilt::{bent, marked_unscored, marks_off, other_tree, random_fit, too_many_children};
 use crate::variants::Rules;
-
-/// A case with what is known of it, and a description to print.
-#[derive(Clone)]
-pub struct Case {
-    pub ask: Ask,
-    pub origin: Origin,
-    pub says: String,
-}
 
 pub struct Generator {
     seed: u64,
@@ -131,7 +123,7 @@ fn build_case(rng: &mut Prng) -> Case {
 }
 
 /// A room size at or near what is due.
-pub fn size_near(rng: &mut Prng, due: usize, most: usize) -> usize {
+fn size_near(rng: &mut Prng, due: usize, most: usize) -> usize {
     let near = [due.saturating_sub(1), due, due + 1, due + 7, due.saturating_sub(2), 0, 1, most];
     let size = match rng.below(12) {
         0..=4 => due,
@@ -149,22 +141,6 @@ fn line_case(rng: &mut Prng) -> Case {
     let room = rng.bytes(size);
     let says = format!("d = {d}, {}, into {size} bytes", made.says);
     from_list(Ask::Line { d, list, room }, &made, says)
-}
-
-/// A table with what is known of it.
-pub struct Given {
-    pub table: Table,
-    pub origin: Origin,
-    pub says: String,
-}
-
-pub fn built(d: u32, made: &Made) -> Given {
-    let table = Oracle::TRUE.table(d, &made.rows, &made.joints);
-    Given {
-        table: table.expect("the list was tried before"),
-        origin: Origin { built: true, joints: made.joints.clone() },
-        says: format!("built at d = {d} from {}", made.says),
-    }
 }
 
 fn random_built(rng: &mut Prng) -> Given {
@@ -220,34 +196,6 @@ fn fit_case(rng: &mut Prng) -> Case {
         _ => random_built(rng),
     };
     plain(Ask::Fit { table: Box::new(given.table) }, given.says)
-}
-
-/// Rescorings of a table's clusters, most of them lawful.
-pub fn random_edits(rng: &mut Prng, table: &Table, many: usize) -> Vec<Edit> {
-    let kind = rng.below(5);
-    let rows = (table.n as usize).clamp(1, 128);
-    let mut row = rng.below(rows);
-    let mut edit = |_| {
-        // Now and then the same row once more.
-        if rng.chance(75) {
-            row = rng.below(rows);
-        }
-        let cluster = match rng.below(12) {
-            0 => rng.pick(&[0, 1, 1 << 32, u64::MAX, u32::MAX as u64]),
-            1 if rng.chance(30) => table.clusters[row] | 1 << 32,
-            _ => table.clusters[row],
-        };
-        let (weight, state) = match rng.below(12) {
-            0..=1 => (0, 0),
-            2 if rng.chance(30) => {
-                rng.pick(&[(1_000_001, 1), (i32::MIN, 1), (1, 0), (0, 2), (-1, 0)])
-            }
-            3 => (table.weights[row], table.states[row]),
-            _ => (weight(rng, kind), 1),
-        };
-        Edit { cluster, weight, state }
-    };
-    (0..many).map(&mut edit).collect()
 }
 
 fn rescore_case(rng: &mut Prng) -> Case {

@@ -10,7 +10,8 @@ use std::sync::mpsc;
 use std::thread;
 
 use crate::answer::{Oracle, Origin, is_built};
-use crate::cases::{Case, Generator};
+use crate::cases::Generator;
+use crate::given::Case;
 use crate::malformed;
 use crate::stream::{Ask, Input, OPERATIONS, TABLE_BYTES};
 use crate::variants::Variant;

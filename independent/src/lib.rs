@@ -10,6 +10,7 @@ pub mod compare;
 pub mod coverage;
 pub mod facts;
 pub mod formulas;
+pub mod given;
 pub mod limits;
 pub mod lists;
 pub mod malformed;

@@ -5,10 +5,9 @@
 
 use crate::answer::{Oracle, Origin};
 use crate::blocks::Made;
-use crate::cases::built;
+use crate::given::{built, house};
 use crate::prng::Prng;
 use crate::records::{list_bytes, raw_bytes};
-use crate::special::house;
 use crate::stream::Ask;
 
 /// What the probe writes where the stream has a fault.
@@ -67,6 +66,12 @@ fn long_lengths(cases: &[Ask]) -> Vec<(Vec<u8>, String)> {
     all.push((read.encode(), "a record of 4,097 bytes".into()));
     let build = Ask::Build { d: 3, list: vec![0; 4_097] };
     all.push((build.encode(), "a list of 4,097 bytes".into()));
+    let line = Ask::Line { d: 3, list: vec![0; 4_097], room: Vec::new() };
+    all.push((line.encode(), "a line's list of 4,097 bytes".into()));
+    let whole = Ask::Whole { d: 3, list: vec![0; 4_097], edits: Vec::new() };
+    all.push((whole.encode(), "a list of 4,097 bytes to rescore and draw".into()));
+    let line = Ask::Line { d: 3, list: Vec::new(), room: vec![0; 513] };
+    all.push((line.encode(), "a line's room of 513 bytes".into()));
     let write = Ask::Write { cluster: 1, weight: 0, state: 1, room: vec![0; 513] };
     all.push((write.encode(), "a room of 513 bytes".into()));
     if let Ask::Fit { table } = &cases[4] {

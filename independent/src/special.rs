@@ -1,12 +1,13 @@
 //! The cases that every run makes: the bench examples, each refusal and each
 //! pair, record edges, rooms around what is due, tables broken in each
-//! sentence, and counts at the limit. From all sections of document 01.
+//! sentence, the most rescorings, and counts at the limit. From all sections
+//! of document 01.
 
 use crate::answer::Origin;
 use crate::blocks::{Made, Top};
 use crate::broken::{BREAKS, EDGES};
-use crate::cases::{Case, Given, built, random_edits};
 use crate::formulas::Edit;
+use crate::given::{Case, Given, built, house, random_edits};
 use crate::limits::{CHAINS, PAIRS, eight_groups_list, many_beside_none, pair_list};
 use crate::lists::{names, random_list, weight};
 use crate::newick::{drawn_tree, text};
@@ -28,6 +29,7 @@ pub fn specials(rng: &mut Prng) -> Vec<Case> {
     rooms(&mut all, rng);
     broken_tables(&mut all, rng);
     refused_rescorings(&mut all, rng);
+    most_rescorings(&mut all);
     refused_drawings(&mut all, rng);
     counts_at_limit(&mut all, rng);
     all
@@ -53,11 +55,6 @@ fn asked_throughout(all: &mut Vec<Case>, rng: &mut Prng, d: u32, made: &Made) {
     add(all, Ask::Fit { table: table.clone() }, &origin, &says);
     add(all, Ask::Tree { table: table.clone(), room: vec![7; 64] }, &origin, &says);
     add(all, Ask::Text { table, room: rng.bytes(160) }, &origin, &says);
-}
-
-pub fn house() -> Vec<Row> {
-    let pairs = [(1, 0), (2, 0), (4, 0), (3, 4), (6, 4), (7, 1)];
-    pairs.iter().map(|&(c, w)| Row::scored(c, w)).collect()
 }
 
 /// The house list with {1,2} unscored.
@@ -172,6 +169,7 @@ fn record_values(all: &mut Vec<Case>, rng: &mut Prng) {
         (1, 0, 1),
         (u32::MAX, 1_000_000, 1),
         (u32::MAX, -1_000_000, 1),
+        (u32::MAX, -1, 1),
         (1 << 31, 1_000_001, 1),
         (1 << 31, -1_000_001, 1),
         (5, i32::MIN, 1),
@@ -330,6 +328,18 @@ fn refused_rescorings(all: &mut Vec<Case>, rng: &mut Prng) {
     }
     let ask = Ask::Rescore { table: Box::new(random_fit(rng)), edits: Vec::new() };
     add(all, ask, &Origin::default(), "no rescorings at all");
+}
+
+/// As many rescorings as a case can count. The table isn't fit, so each is
+/// refused.
+fn most_rescorings(all: &mut Vec<Case>) {
+    let edits = vec![Edit { cluster: 3, weight: 9, state: 1 }; u16::MAX as usize];
+    let says = format!("{} rescorings", edits.len());
+    let table = Box::new(Table::zero());
+    let ask = Ask::Rescore { table, edits: edits.clone() };
+    add(all, ask, &Origin::default(), &says);
+    let ask = Ask::Whole { d: 3, list: Vec::new(), edits };
+    add(all, ask, &Origin::default(), &says);
 }
 
 /// Trees and texts refused for one reason or for two at once: unfit, no tree,

@@ -1,6 +1,6 @@
-// A table as 6,924 bytes: every field as it stands, one after the other, each column whole (docs/PROBE.md, "TABLE").
-//     table_of        the table that the bytes hold
-//     put_table       the bytes of a table, stored
+// TABLE of docs/PROBE.md: every field of a table as it stands, one after the other, each column whole.
+//     Given, read_table     a table read, whole or not
+//     write_table           a table, written
 use crate::numbers::LONG_BYTES;
 use crate::numbers::WORD_BYTES;
 use crate::numbers::best_at;
@@ -8,14 +8,21 @@ use crate::numbers::bits_of;
 use crate::numbers::number_at;
 use crate::numbers::put_number;
 use crate::numbers::weight_at;
-use crate::numbers::wide;
 use crate::numbers::wide_bits_of;
 use crate::numbers::word_at;
+use crate::stream::fill;
+use crate::stream::write;
+use crate::stream::write_number;
 use table::Table;
-use table::zero_table;
 ghost use mathlib.Core.Path.{_≡_};
-ghost use Prim.Native.Nat.{_<_};
+ghost use Prim.Native.Nat.{_+_, _≤_};
 ghost use lib.ListN.{length};
+
+// A table that came. Where the stream ended before it did, it isn't whole, and the table doesn't count.
+pub(crate) struct Given {
+    pub is_whole: bool,
+    pub table: Table,
+}
 
 // How many rows a table has room for.
 const ROWS: usize = 128;
@@ -41,100 +48,140 @@ const LOWS_AT: usize = 4876;
 
 const HIGHS_AT: usize = 5900;
 
-// `t` with row `i` as the bytes hold it.
-fn with_row(t: Table, i: usize, bytes: &[u8]) -> Table
-    requires { ⌜ (i < 128) × (length (now bytes) ≡ 6924) ⌝ }
+fn longs_at(bytes: &[u8], at: usize) -> [u64; 128]
+    requires { ⌜ at + 1024 ≤ length (now bytes) ⌝ }
 {
-    let word = i * WORD_BYTES;
-    let long = i * LONG_BYTES;
-    let weight = weight_at(bytes, WEIGHTS_AT + word);
-    let best = best_at(bytes, BESTS_AT + long);
-    let mut next = t;
-    next.clusters[i] = number_at(bytes, CLUSTERS_AT + long, LONG_BYTES);
-    next.weights[i] = weight;
-    next.states[i] = bytes[STATES_AT + i];
-    next.lengths[i] = number_at(bytes, LENGTHS_AT + long, LONG_BYTES);
-    next.counts[i] = number_at(bytes, COUNTS_AT + long, LONG_BYTES);
-    next.marks[i] = bytes[MARKS_AT + i];
-    next.bests[i] = best;
-    next.members_low[i] = number_at(bytes, LOWS_AT + long, LONG_BYTES);
-    next.members_high[i] = number_at(bytes, HIGHS_AT + long, LONG_BYTES);
-    next
+    let mut column = [0; 128];
+    let mut i = 0;
+    while i < ROWS {
+        column[i] = number_at(bytes, at + i * LONG_BYTES, LONG_BYTES);
+        i += 1;
+    }
+    column
+}
+
+fn weights_at(bytes: &[u8], at: usize) -> [i32; 128]
+    requires { ⌜ at + 512 ≤ length (now bytes) ⌝ }
+{
+    let mut column = [0; 128];
+    let mut i = 0;
+    while i < ROWS {
+        column[i] = weight_at(bytes, at + i * WORD_BYTES);
+        i += 1;
+    }
+    column
+}
+
+fn bests_at(bytes: &[u8], at: usize) -> [i64; 128]
+    requires { ⌜ at + 1024 ≤ length (now bytes) ⌝ }
+{
+    let mut column = [0; 128];
+    let mut i = 0;
+    while i < ROWS {
+        column[i] = best_at(bytes, at + i * LONG_BYTES);
+        i += 1;
+    }
+    column
+}
+
+fn bytes_at(bytes: &[u8], at: usize) -> [u8; 128]
+    requires { ⌜ at + 128 ≤ length (now bytes) ⌝ }
+{
+    let mut column = [0; 128];
+    let mut i = 0;
+    while i < ROWS {
+        column[i] = bytes[at + i];
+        i += 1;
+    }
+    column
 }
 
 // The table that the bytes hold, whatever it is.
-pub(crate) fn table_of(bytes: &[u8]) -> Table
+fn table_of(bytes: &[u8]) -> Table
     requires { ⌜ length (now bytes) ≡ 6924 ⌝ }
 {
-    let mut t = zero_table();
-    t.degree = word_at(bytes, 0);
-    t.rows = number_at(bytes, ROWS_AT, LONG_BYTES) as usize;
+    Table {
+        rows: number_at(bytes, ROWS_AT, LONG_BYTES) as usize,
+        clusters: longs_at(bytes, CLUSTERS_AT),
+        weights: weights_at(bytes, WEIGHTS_AT),
+        states: bytes_at(bytes, STATES_AT),
+        lengths: longs_at(bytes, LENGTHS_AT),
+        counts: longs_at(bytes, COUNTS_AT),
+        marks: bytes_at(bytes, MARKS_AT),
+        bests: bests_at(bytes, BESTS_AT),
+        members_low: longs_at(bytes, LOWS_AT),
+        members_high: longs_at(bytes, HIGHS_AT),
+        degree: word_at(bytes, 0),
+    }
+}
+
+pub(crate) fn read_table() -> Given {
+    let mut bytes = [0u8; 6924];
+    let is_whole = fill(&mut bytes);
+    Given {
+        is_whole,
+        table: table_of(&bytes),
+    }
+}
+
+fn write_longs(column: [u64; 128]) {
+    let mut bytes = [0u8; 1024];
     let mut i = 0;
     while i < ROWS {
-        t = with_row(t, i, bytes);
+        put_number(&mut bytes, i * LONG_BYTES, LONG_BYTES, column[i]);
         i += 1;
     }
-    t
+    write(&bytes);
 }
 
-// What was listed of row `i`: cluster, weight and state, each stored in its column.
-fn put_listed(t: Table, i: usize, room: &mut [u8])
-    requires { ⌜ (i < 128) × (length (now room) ≡ 6924) ⌝ }
-{
-    put_number(
-        room,
-        CLUSTERS_AT + i * LONG_BYTES,
-        LONG_BYTES,
-        t.clusters[i],
-    );
-    put_number(
-        room,
-        WEIGHTS_AT + i * WORD_BYTES,
-        WORD_BYTES,
-        wide_bits_of(t.weights[i]),
-    );
-    put_number(room, STATES_AT + i, 1, wide(t.states[i]));
-}
-
-// The numbers that were worked out of row `i`, each stored in its column.
-fn put_worked(t: Table, i: usize, room: &mut [u8])
-    requires { ⌜ (i < 128) × (length (now room) ≡ 6924) ⌝ }
-{
-    put_number(room, LENGTHS_AT + i * LONG_BYTES, LONG_BYTES, t.lengths[i]);
-    put_number(room, COUNTS_AT + i * LONG_BYTES, LONG_BYTES, t.counts[i]);
-    put_number(room, MARKS_AT + i, 1, wide(t.marks[i]));
-    put_number(
-        room,
-        BESTS_AT + i * LONG_BYTES,
-        LONG_BYTES,
-        bits_of(t.bests[i]),
-    );
-}
-
-// The member words of row `i`, each stored in its column.
-fn put_members(t: Table, i: usize, room: &mut [u8])
-    requires { ⌜ (i < 128) × (length (now room) ≡ 6924) ⌝ }
-{
-    put_number(room, LOWS_AT + i * LONG_BYTES, LONG_BYTES, t.members_low[i]);
-    put_number(
-        room,
-        HIGHS_AT + i * LONG_BYTES,
-        LONG_BYTES,
-        t.members_high[i],
-    );
-}
-
-// The bytes of a table, stored in a room of as many.
-pub(crate) fn put_table(t: Table, room: &mut [u8])
-    requires { ⌜ length (now room) ≡ 6924 ⌝ }
-{
-    put_number(room, 0, WORD_BYTES, t.degree as u64);
-    put_number(room, ROWS_AT, LONG_BYTES, t.rows as u64);
+fn write_weights(column: [i32; 128]) {
+    let mut bytes = [0u8; 512];
     let mut i = 0;
     while i < ROWS {
-        put_listed(t, i, room);
-        put_worked(t, i, room);
-        put_members(t, i, room);
+        put_number(
+            &mut bytes,
+            i * WORD_BYTES,
+            WORD_BYTES,
+            wide_bits_of(column[i]),
+        );
         i += 1;
     }
+    write(&bytes);
+}
+
+fn write_bests(column: [i64; 128]) {
+    let mut bytes = [0u8; 1024];
+    let mut i = 0;
+    while i < ROWS {
+        put_number(&mut bytes, i * LONG_BYTES, LONG_BYTES, bits_of(column[i]));
+        i += 1;
+    }
+    write(&bytes);
+}
+
+fn write_bytes(column: [u8; 128]) {
+    write(&column);
+}
+
+pub(crate) fn write_table(t: Table) {
+    let clusters = t.clusters;
+    let weights = t.weights;
+    let states = t.states;
+    let lengths = t.lengths;
+    let counts = t.counts;
+    let marks = t.marks;
+    let bests = t.bests;
+    let lows = t.members_low;
+    let highs = t.members_high;
+    write_number(t.degree as u64, WORD_BYTES);
+    write_number(t.rows as u64, LONG_BYTES);
+    write_longs(clusters);
+    write_weights(weights);
+    write_bytes(states);
+    write_longs(lengths);
+    write_longs(counts);
+    write_bytes(marks);
+    write_bests(bests);
+    write_longs(lows);
+    write_longs(highs);
 }

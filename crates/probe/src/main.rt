@@ -11,51 +11,55 @@ mod records;
 mod stream;
 mod tables;
 
-use drawings::is_line_answered;
-use drawings::is_text_answered;
-use drawings::is_tree_answered;
-use drawings::is_whole_answered;
-use records::is_read_answered;
-use records::is_write_answered;
-use stream::is_filled;
+use drawings::answer_line;
+use drawings::answer_text;
+use drawings::answer_tree;
+use drawings::answer_whole;
+use records::answer_read;
+use records::answer_write;
+use stream::fill;
 use stream::write;
-use tables::is_build_answered;
-use tables::is_fit_answered;
-use tables::is_rescore_answered;
+use tables::answer_build;
+use tables::answer_fit;
+use tables::answer_rescore;
 
-// One case of the operation, answered; false where the case isn't whole or the operation is unknown.
-fn is_answered(operation: u8) -> bool {
+// Answers one case of the operation; false where the case isn't whole or the operation is unknown.
+fn answer_case(operation: u8) -> bool {
     match operation {
-        1 => is_read_answered(),
-        2 => is_write_answered(),
-        3 => is_build_answered(),
-        4 => is_rescore_answered(),
-        5 => is_fit_answered(),
-        6 => is_tree_answered(),
-        7 => is_text_answered(),
-        8 => is_line_answered(),
-        9 => is_whole_answered(),
+        1 => answer_read(),
+        2 => answer_write(),
+        3 => answer_build(),
+        4 => answer_rescore(),
+        5 => answer_fit(),
+        6 => answer_tree(),
+        7 => answer_text(),
+        8 => answer_line(),
+        9 => answer_whole(),
         _ => false,
     }
 }
 
-// The next case, answered; false where the input ends or has a fault, which is told.
-fn is_next_answered() -> bool {
+fn tell_fault() {
+    write(b"malformed stream\n");
+}
+
+// Answers the next case; false where the input ends or has a fault, which is told.
+fn answer_next() -> bool {
     let mut operation = [0u8; 1];
-    if !is_filled(&mut operation) {
+    if !fill(&mut operation) {
         return false;
     }
-    if is_answered(operation[0]) {
+    if answer_case(operation[0]) {
         return true;
     }
-    write(b"malformed stream\n");
+    tell_fault();
     false
 }
 
 // A proved loop has to end, and nothing says that the input does. So the turns are counted down, from a number that no run uses up.
 fn main() {
     let mut turns = u64::MAX;
-    while turns > 0 && is_next_answered() {
+    while turns > 0 && answer_next() {
         turns -= 1;
     }
 }

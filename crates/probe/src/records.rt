@@ -1,52 +1,51 @@
-// The operations on one record. Each answers whether its case was whole, and writes nothing where it wasn't.
-//     is_read_answered      operation 1, read one record
-//     is_write_answered     operation 2, write one record
+// The operations on one record. Each reads its case and writes the answer; false where the case isn't whole, and then it writes nothing.
+// What a `tell_` writes is the answer of an operation on what was read.
+//     answer_read      operation 1, read one record
+//     answer_write     operation 2, write one record
 use crate::numbers::WORD_BYTES;
-use crate::numbers::put_number;
 use crate::numbers::weight_at;
 use crate::numbers::wide;
 use crate::numbers::wide_bits_of;
 use crate::numbers::word_at;
-use crate::stream::is_filled;
+use crate::stream::fill;
 use crate::stream::read_part;
 use crate::stream::read_room;
 use crate::stream::write;
+use crate::stream::write_number;
 use crate::stream::write_sent;
 use cluster::Record;
+ghost use mathlib.Core.Path.{_≡_};
+ghost use lib.ListN.{length};
 
 // Where the weight and the state of a record's fields stand; the cluster stands first.
 const WEIGHT_AT: usize = 4;
 
 const STATE_AT: usize = 8;
 
-fn write_fields(r: Record) {
-    let mut fields = [0u8; 9];
-    put_number(&mut fields, 0, WORD_BYTES, r.cluster as u64);
-    put_number(&mut fields, WEIGHT_AT, WORD_BYTES, wide_bits_of(r.weight));
-    put_number(&mut fields, STATE_AT, 1, wide(r.state));
-    write(&fields);
-}
-
-fn answer_read(bytes: &[u8]) {
+fn tell_read(bytes: &[u8]) {
     let reading = cluster::read_record(bytes);
     let answer = reading.answer;
     let r = reading.record;
     write_sent(answer);
-    write_fields(r);
+    write_number(r.cluster as u64, WORD_BYTES);
+    write_number(wide_bits_of(r.weight), WORD_BYTES);
+    write_number(wide(r.state), 1);
 }
 
-pub(crate) fn is_read_answered() -> bool {
+pub(crate) fn answer_read() -> bool {
     let mut list = io::buffer();
     let part = read_part(&mut list, 1);
     if !part.is_whole {
         return false;
     }
     let end = part.end;
-    answer_read(&list[..end]);
+    tell_read(&list[..end]);
     true
 }
 
-fn fields_of(fields: &[u8; 9]) -> Record {
+fn fields_of(fields: &[u8]) -> Record
+    requires { ⌜ length (now fields) ≡ 9 ⌝ }
+{
     Record {
         cluster: word_at(fields, 0),
         weight: weight_at(fields, WEIGHT_AT),
@@ -54,15 +53,15 @@ fn fields_of(fields: &[u8; 9]) -> Record {
     }
 }
 
-fn answer_write(r: Record, room: &mut [u8]) {
+fn tell_write(r: Record, room: &mut [u8]) {
     let answer = cluster::write_record(r, room);
     write_sent(answer);
     write(room);
 }
 
-pub(crate) fn is_write_answered() -> bool {
+pub(crate) fn answer_write() -> bool {
     let mut fields = [0u8; 9];
-    if !is_filled(&mut fields) {
+    if !fill(&mut fields) {
         return false;
     }
     let room = read_room();
@@ -71,6 +70,6 @@ pub(crate) fn is_write_answered() -> bool {
     }
     let end = room.end;
     let mut bytes = room.bytes;
-    answer_write(fields_of(&fields), &mut bytes[..end]);
+    tell_write(fields_of(&fields), &mut bytes[..end]);
     true
 }

@@ -1,19 +1,19 @@
-// The operations on tables. Each answers whether its case was whole, and writes nothing where it wasn't.
-//     is_build_answered       operation 3, build a table
-//     is_rescore_answered     operation 4, rescore a table, time after time
-//     is_fit_answered         operation 5, is the table fit
-//     built                   the table of a list, its SENT written
-//     scores_room             a room for as many rescorings as a case can have
-//     rescored                a table rescored, the SENT of each rescoring written
+// The operations on tables. Each reads its case and writes the answer; false where the case isn't whole, and then it writes nothing.
+//     answer_build       operation 3, build a table
+//     answer_rescore     operation 4, rescore a table, time after time
+//     answer_fit         operation 5, is the table fit
+//     tell_build         writes the SENT of a build, and hands back the table
+//     scores_room        a room for as many rescorings as a case can have
+//     tell_rescores      writes the SENT of one rescoring after another, and hands back the table
+use crate::layout::read_table;
+use crate::layout::write_table;
 use crate::numbers::LONG_BYTES;
 use crate::numbers::number_at;
 use crate::numbers::weight_at;
 use crate::stream::read_list;
 use crate::stream::read_part;
-use crate::stream::read_table;
-use crate::stream::write;
+use crate::stream::write_number;
 use crate::stream::write_sent;
-use crate::stream::write_table;
 use table::Table;
 ghost use mathlib.Core.Path.{_≡_};
 ghost use Prim.Native.Nat.{_+_, _*_, _≤_};
@@ -26,23 +26,22 @@ const WEIGHT_AT: usize = 8;
 
 const STATE_AT: usize = 12;
 
-// The table of a list, which is all zero where the build is refused; the build's SENT is written.
-pub(crate) fn built(list: &[u8], degree: u32) -> Table {
+// Writes the SENT of a build, and hands back the table, which is all zero where the build is refused.
+pub(crate) fn tell_build(list: &[u8], degree: u32) -> Table {
     let made = table::build(list, degree);
     let answer = made.answer;
-    let t = made.table;
     write_sent(answer);
-    t
+    made.table
 }
 
-pub(crate) fn is_build_answered() -> bool {
+pub(crate) fn answer_build() -> bool {
     let mut list = io::buffer();
     let listed = read_list(&mut list);
     if !listed.is_whole {
         return false;
     }
     let end = listed.end;
-    write_table(built(&list[..end], listed.degree));
+    write_table(tell_build(&list[..end], listed.degree));
     true
 }
 
@@ -53,33 +52,46 @@ pub(crate) fn scores_room() -> [u8; 851955]
     [0; 851955]
 }
 
-// The table after the rescoring whose bytes start at `at`, whose SENT is written.
-fn rescored_by(t: Table, scores: &[u8], at: usize) -> Table
-    requires { ⌜ at + 13 ≤ length (now scores) ⌝ }
-{
-    let cluster = number_at(scores, at, LONG_BYTES);
-    let weight = weight_at(scores, at + WEIGHT_AT);
-    let changed = table::rescore(t, cluster, weight, scores[at + STATE_AT]);
-    let answer = changed.answer;
-    let next = changed.table;
-    write_sent(answer);
-    next
+// What a rescoring asks for.
+struct Score {
+    cluster: u64,
+    weight: i32,
+    state: u8,
 }
 
-// The table after `count` rescorings, one after another.
-pub(crate) fn rescored(given: Table, scores: &[u8], count: usize) -> Table
+// The rescoring whose bytes start at `at`.
+fn score_at(scores: &[u8], at: usize) -> Score
+    requires { ⌜ at + 13 ≤ length (now scores) ⌝ }
+{
+    Score {
+        cluster: number_at(scores, at, LONG_BYTES),
+        weight: weight_at(scores, at + WEIGHT_AT),
+        state: scores[at + STATE_AT],
+    }
+}
+
+// Writes the SENT of a rescoring, and hands back the table after it.
+fn tell_rescore(t: Table, score: Score) -> Table {
+    let changed = table::rescore(t, score.cluster, score.weight, score.state);
+    let answer = changed.answer;
+    write_sent(answer);
+    changed.table
+}
+
+// Writes the SENT of `count` rescorings, one after another, and hands back the table after the last.
+pub(crate) fn tell_rescores(given: Table, scores: &[u8], count: usize) -> Table
     requires { ⌜ count * 13 ≤ length (now scores) ⌝ }
 {
     let mut t = given;
     let mut i = 0;
     while i < count {
-        t = rescored_by(t, scores, i * SCORE_BYTES);
+        t = tell_rescore(t, score_at(scores, i * SCORE_BYTES));
         i += 1;
     }
     t
 }
 
-pub(crate) fn is_rescore_answered() -> bool {
+pub(crate) fn answer_rescore() -> bool {
     let given = read_table();
     if !given.is_whole {
         return false;
@@ -89,23 +101,15 @@ pub(crate) fn is_rescore_answered() -> bool {
     if !part.is_whole {
         return false;
     }
-    write_table(rescored(given.table, &scores, part.count));
+    write_table(tell_rescores(given.table, &scores, part.count));
     true
 }
 
-fn write_flag(flag: bool) {
-    if flag {
-        write(&[1]);
-        return;
-    }
-    write(&[0]);
-}
-
-pub(crate) fn is_fit_answered() -> bool {
+pub(crate) fn answer_fit() -> bool {
     let given = read_table();
     if !given.is_whole {
         return false;
     }
-    write_flag(table::is_fit(given.table));
+    write_number(table::is_fit(given.table) as u64, 1);
     true
 }

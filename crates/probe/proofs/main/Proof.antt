@@ -12,8 +12,8 @@ abbrev μ-loop : tie.MeasureT-loop
 loop-holds : tie.Need-loop-holds Inv-loop μ-loop
 loop-holds c = tt
 
-is-next-answered-requires : tie.Need-is-next-answered-requires Inv-loop μ-loop
-is-next-answered-requires c κs = tt
+answer-next-requires : tie.Need-answer-next-requires Inv-loop μ-loop
+answer-next-requires c κs = tt
 
 loop-again : tie.Need-loop-again Inv-loop μ-loop
 loop-again c = tt
@@ -31,7 +31,7 @@ main-spec =
     Inv-loop
     μ-loop
     loop-holds
-    is-next-answered-requires
+    answer-next-requires
     (λ c. omega arith)
     (λ c. omega arith)
     loop-again

@@ -11,6 +11,10 @@ Inv-loop words i₀ i = i ≤ length words
 abbrev μ-loop : tie.MeasureT-loop
 μ-loop words i₀ i = length words - i
 
+-- a number of 32 bits fits in 64
+cast-write-number : tie.Need-cast-write-number Inv-loop μ-loop
+cast-write-number c = omega (arith, c .shared-slice-known2 .given (c .before .before .loop .i))
+
 pub write-words-spec : {M : Type 1} → statement M
 write-words-spec =
     tie.close
@@ -20,7 +24,8 @@ write-words-spec =
     (λ c. omega arith)
     (λ c. omega arith)
     (λ c. omega arith)
-    (λ c κs. tt)
+    cast-write-number
+    (λ c κs. omega arith)
     (λ c. omega arith)
     (λ c. omega arith)
     (λ c. omega arith)
