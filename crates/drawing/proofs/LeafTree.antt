@@ -49,10 +49,10 @@ use Rattle.kept.specs.Arrays.{Rising}
 use Rattle.kept.proofs.Laws.Clusters.{isMarkedIn-is}
 use Rattle.table.proofs.Laws.Build.{Buildable}
 use Rattle.table.proofs.Rows.Marked.{marksOf-marked}
-use Rattle.members.specs.Draw.{leafRow, leafMarks, membersOf, isSame, areScored, weighsBest, isDrawable}
-use Rattle.members.specs.Marked.{membersTo, scoredTo, weightTo}
+use Rattle.members.specs.Draw.{leafRow, leafMarks, membersOf, areScored, weighsBest, isDrawable}
+use Rattle.members.specs.Marked.{membersTo, scoredTo, weightTo, isSame}
 use Rattle.members.proofs.Laws.Draw.{isSame-refl}
-use Rattle.members.proofs.Laws.Members.{Tells, members-tell, scored-tell, weight-tell}
+use Rattle.members.proofs.Laws.Tells.{Tells, members-tell, scored-tell, weight-tell}
 use Rattle.drawing.specs.Built.{builtFrom, leaves, treesOf}
 use Rattle.drawing.proofs.LeafRow.{shown-is, rows-are, clusters-down, rising, row-at, leaf-set-is, leaf-result, leaf-listed}
 

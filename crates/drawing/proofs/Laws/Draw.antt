@@ -30,7 +30,8 @@ use Rattle.kept.specs.declared.table.Table.{Table}
 use Rattle.kept.specs.Rows.{leafSet}
 use Rattle.kept.proofs.Laws.Fit.{isFit→}
 use Rattle.members.specs.Draw.{leafRow, membersOf, drawReasons}
-use Rattle.members.proofs.Drawn.{Drawable, drawable}
+use Rattle.members.specs.Drawable.{Drawable}
+use Rattle.members.proofs.Drawn.{drawable}
 use Rattle.drawing.specs.declared.drawing.DrawnText.{DrawnText}
 use Rattle.drawing.specs.Draw.{drawTree, leafText, TextAt, noText, textAt, drawnText, drawnTextOf, drawText}
 use Rattle.drawing.proofs.Tested.{tested-tree}
@@ -42,7 +43,7 @@ module _ (W : Width) (facts : WidthFacts W) {t : Table} (d : Drawable W t) where
   tree-on = tested-tree (W .taxa) (t .degree) (leafSet t) (membersOf t) (d .once) (d .sound) (facts .taxa) (true-T (d .tree))
 
   pub leaf-row-lt : leafRow t < rowCap
-  leaf-row-lt = omega (arith, d .row, isFit→ W facts t (true-T (d .fit)) .capped, facts .rows)
+  leaf-row-lt = omega (arith, d .row, isFit→ W facts t (d .fit) .capped, facts .rows)
 
 -- ---- into a room
 

@@ -45,7 +45,8 @@ use Rattle.kept.proofs.Laws.Fit.{FitRow, isFit→, fit→}
 use Rattle.table.specs.Build.{buildReasons, buildTable}
 use Rattle.table.proofs.Laws.Build.{build-of, degree-range}
 use Rattle.members.specs.Draw.{leafRow, membersOf, drawReasons}
-use Rattle.members.proofs.Drawn.{Drawable, drawable}
+use Rattle.members.specs.Drawable.{Drawable}
+use Rattle.members.proofs.Drawn.{drawable}
 use Rattle.drawing.specs.Draw.{leafText}
 use Rattle.drawing.proofs.Laws.Draw.{tree-on}
 use Rattle.report.specs.Words.{refusedLine, treeLine}

@@ -13,7 +13,8 @@ use Rattle.texts.specs.declared.text.Text.{Text}
 use Rattle.texts.specs.Text.{holding}
 use Rattle.kept.specs.declared.table.Table.{Table}
 use Rattle.kept.specs.Rows.{leafSet}
-use Rattle.members.proofs.Drawn.{Success, drawn-refused, drawn-done}
+use Rattle.members.specs.Drawable.{Success}
+use Rattle.members.proofs.Drawn.{drawn-refused, drawn-done}
 use Rattle.drawing.proofs.Laws.Draw.{tree-on, leaf-row-lt, drawn-text-refused, drawn-text-done}
 use Rattle.drawing.proofs.drawing.drawn_text.Statement.{statement}
 use Rattle.drawing.proofs.drawing.drawn_text.Tie as tie
@@ -66,7 +67,7 @@ returns-2 c =
     let told = c .before .before .before .before in
     let d = drawn told in
     let same = c .text-of .ensures ∙ ap holding (ap₂ textOf (d .front) (top told)) in
-    drawn-text-done narrow (table told) (d .none) (d .row) same
+    drawn-text-done narrow (table told) (d .unrefused) (d .row) same
 
 pub drawn-text-spec : {M : Type 1} → statement M
 drawn-text-spec =

@@ -13,7 +13,8 @@ use Rattle.cluster.specs.Outcome.{outcomeOf}
 use Rattle.cluster.proofs.Laws.Outcome.{written-short, written-whole}
 use Rattle.kept.specs.declared.table.Table.{Table}
 use Rattle.members.specs.Draw.{membersOf}
-use Rattle.members.proofs.Drawn.{Success, drawn-refused, drawn-done}
+use Rattle.members.specs.Drawable.{Success}
+use Rattle.members.proofs.Drawn.{drawn-refused, drawn-done}
 use Rattle.drawing.proofs.Laws.Draw.{tree-refused, tree-put}
 use Rattle.drawing.proofs.drawing.tree.Statement.{statement}
 use Rattle.drawing.proofs.drawing.tree.Tie as tie
@@ -41,7 +42,7 @@ returns-2 : tie.Need-returns-2
 returns-2 c =
     let told = c .before in
     sym (written-short [] (membersOf (table told)) (room told) refl (omega (arith, drawn told .size, c .if1 .taken)))
-    ∙ tree-put narrow (table told) (room told) (drawn told .none)
+    ∙ tree-put narrow (table told) (room told) (drawn told .unrefused)
 
 array-share-prefix-xs : tie.Need-array-share-prefix-xs
 array-share-prefix-xs c = drawn (c .before .before) .fits
@@ -65,7 +66,7 @@ returns-3 c =
     let whole = ap (λ (o : List ℕ). o ++ drop (length o) (room told)) (d .front) in
     ap₂ outcomeOf (ap Done (d .size)) (put .put-clusters .ensures ∙ whole)
     ∙ sym (written-whole [] xs (room told) refl (omega (arith, d .size, test .if1 .left)))
-    ∙ tree-put narrow (table told) (room told) (d .none)
+    ∙ tree-put narrow (table told) (room told) (d .unrefused)
 
 pub tree-spec : {M : Type 1} → statement M
 tree-spec =
