@@ -49,8 +49,8 @@ use Rattle.kept.specs.Arrays.{Rising}
 use Rattle.kept.proofs.Laws.Clusters.{isMarkedIn-is}
 use Rattle.table.proofs.Laws.Build.{Buildable}
 use Rattle.table.proofs.Rows.Marked.{marksOf-marked}
-use Rattle.members.specs.Draw.{leafRow, leafMarks, membersOf, areScored, weighsBest, isDrawable}
 use Rattle.members.specs.Marked.{membersTo, scoredTo, weightTo, isSame}
+use Rattle.members.specs.Draw.{leafRow, leafMarks, membersOf, areScored, weighsBest, isDrawable}
 use Rattle.members.proofs.Laws.Draw.{isSame-refl}
 use Rattle.members.proofs.Laws.Tells.{Tells, members-tell, scored-tell, weight-tell}
 use Rattle.drawing.specs.Built.{builtFrom, leaves, treesOf}

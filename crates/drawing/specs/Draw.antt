@@ -6,8 +6,11 @@
 --     drawnText W t        the text by value: a success tells its bytes
 --     drawnTextOf r        the code's value as an outcome
 --     drawText W t l       what asking for the text gives, in the room l
+--     TextDrawn W t r      what is known of a text by value that isn't refused
 -- Assumes nothing.
+use mathlib.Core.Path.{_≡_}
 use mathlib.Core.List.{List, []}
+use mathlib.Core.Option.{none}
 use Prim.Native.Nat.{ℕ}
 use lib.ListN.{length}
 use Rattle.laws.specs.Limits.{Width}
@@ -19,6 +22,7 @@ use Rattle.texts.specs.Text.{holding}
 use Rattle.kept.specs.declared.table.Table.{Table}
 use Rattle.kept.specs.Rows.{leafSet}
 use Rattle.members.specs.Draw.{leafRow, membersOf, drawReasons}
+use Rattle.members.specs.Drawable.{Drawable}
 use Rattle.drawing.specs.declared.drawing.DrawnText.{DrawnText}
 
 unfoldable pub drawTree : Width → Table → List ℕ → Outcome (List ℕ)
@@ -46,3 +50,10 @@ drawnTextOf r = outcomeOf (r .answer) (record { row = r .row; text = r .text })
 
 unfoldable pub drawText : Width → Table → List ℕ → Outcome (List ℕ)
 drawText W t l = written (drawReasons W t) (leafText t) l
+
+-- ---- what is known of a text by value that isn't refused
+pub record TextDrawn (W : Width) (t : Table) (r : DrawnText) : Type 0 where
+  pub unrefused : firstReason (drawReasons W t) ≡ none
+  pub table : Drawable W t
+  pub row : r .row ≡ leafRow t
+  pub text : r .text ≡ holding (leafText t)

@@ -148,7 +148,8 @@ module _ (W : Width) (l m : List ℕ) (a : Accepted W l) (b : Accepted W m) (the
   falls x k = rows-fall (listedAt W x) (recordsIn W x) (λ i h. new-iff W x i .1 (k .once i h))
 
   pub rows-of-records : rowsOf W l ≡ rowsOf W m
-  rows-of-records = falling-only (rowsOf W l) (rowsOf W m) (falls l a) (falls m b) (record { to = λ r k. moved l m there r k; from = λ r k. moved m l back r k })
+  rows-of-records =
+      falling-only (rowsOf W l) (rowsOf W m) (falls l a) (falls m b) (record { to = moved l m there; from = moved m l back })
 
   pub read-of-records : readList W l ≡ readList W m
   read-of-records =

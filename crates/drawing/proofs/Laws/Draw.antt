@@ -4,8 +4,7 @@
 --     tree-refused, tree-put    the tree: refused, and put into the room
 --     text-refused, text-put    so for the text
 --     drawn-text-refused, drawn-text-done     the text by value
---     TextDrawn W t r           what is known of a text by value that isn't refused
---     text→refused, text→drawn  what its answer tells
+--     text→refused, text→drawn  what its answer tells: why nothing is drawn, or `TextDrawn` of `specs/Draw.antt`
 --     tree-only, text-only, drawn-text-only     two outcomes that a promise allows are equal
 -- Assumes nothing.
 use mathlib.Core.Path.{_≡_, refl, sym, ap, ap₂, _∙_}
@@ -33,7 +32,7 @@ use Rattle.members.specs.Draw.{leafRow, membersOf, drawReasons}
 use Rattle.members.specs.Drawable.{Drawable}
 use Rattle.members.proofs.Drawn.{drawable}
 use Rattle.drawing.specs.declared.drawing.DrawnText.{DrawnText}
-use Rattle.drawing.specs.Draw.{drawTree, leafText, TextAt, noText, textAt, drawnText, drawnTextOf, drawText}
+use Rattle.drawing.specs.Draw.{drawTree, leafText, TextAt, noText, textAt, drawnText, drawnTextOf, drawText, TextDrawn}
 use Rattle.drawing.proofs.Tested.{tested-tree}
 
 -- ---- a table of which a tree is drawn
@@ -72,12 +71,6 @@ module _ (W : Width) (t : Table) (l : List ℕ) where
 
 -- ---- by value
 
-pub record TextDrawn (W : Width) (t : Table) (r : DrawnText) : Type 0 where
-  pub none : firstReason (drawReasons W t) ≡ none
-  pub table : Drawable W t
-  pub row : r .row ≡ leafRow t
-  pub text : r .text ≡ holding (leafText t)
-
 module _ (W : Width) (t : Table) where
   drawn-by : {o : Option Refusal} → firstReason (drawReasons W t) ≡ o → ended o noText (length (leafText t)) (textAt t) ≡ drawnText W t
   unfolding drawnText
@@ -103,7 +96,7 @@ module _ (W : Width) (t : Table) where
     pub text→drawn : WidthFacts W → {n : ℕ} → r .answer ≡ Done n → TextDrawn W t r
     text→drawn facts {n} h =
         let q = ended-done (firstReason (drawReasons W t)) noText (length (leafText t)) (textAt t) n _ (ended-is h) in record {
-          none = q .0;
+          unrefused = q .0;
           table = drawable W facts t (q .0);
           row = ap (λ (x : TextAt). x .row) (q .1);
           text = ap (λ (x : TextAt). x .text) (q .1);

@@ -21,7 +21,7 @@ use mir.Syntax.{w64}
 use mir.Val.{SFits, toZ, ofZ}
 use Rattle.laws.specs.Limits.{narrow, degreeHigh, isDegree}
 use Rattle.laws.proofs.Integers.{mag-le-abs}
-use Rattle.laws.proofs.Tests.{true-T, T-of-not}
+use Rattle.laws.proofs.Tests.{T-of-not}
 use Rattle.laws.proofs.Width.{narrow-facts}
 use Rattle.cluster.specs.declared.refusal.Answer.{Answer}
 use Rattle.cluster.specs.declared.refusal.Answer.the-variants.{Done, Refused}
@@ -60,7 +60,7 @@ module _ {t : Table} (d : Drawable narrow t) where
   leaf = resultAt t (leafRow t)
 
   leaf-row : FitRow narrow (clustersIn t) (rowAt t (leafRow t)) leaf
-  leaf-row = fit→ narrow (clustersIn t) (entryAt t (leafRow t)) (isFit→ narrow narrow-facts t (true-T (d .fit)) .fit (leafRow t) (d .row))
+  leaf-row = fit→ narrow (clustersIn t) (entryAt t (leafRow t)) (isFit→ narrow narrow-facts t (d .fit) .fit (leafRow t) (d .row))
 
   tree-best-le : natAbs (leaf .best) ≤ bestMax
   tree-best-le =

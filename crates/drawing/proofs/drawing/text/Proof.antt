@@ -9,8 +9,8 @@ use Rattle.laws.proofs.Width.{narrow-facts}
 use Rattle.cluster.specs.Outcome.{written}
 use Rattle.texts.proofs.Laws.{text-front, text-fits, text-count}
 use Rattle.kept.specs.declared.table.Table.{Table}
-use Rattle.drawing.specs.Draw.{leafText}
-use Rattle.drawing.proofs.Laws.Draw.{TextDrawn, text-refused, text-put, text→refused, text→drawn}
+use Rattle.drawing.specs.Draw.{leafText, TextDrawn}
+use Rattle.drawing.proofs.Laws.Draw.{text-refused, text-put, text→refused, text→drawn}
 use Rattle.drawing.proofs.drawing.text.Statement.{statement}
 use Rattle.drawing.proofs.drawing.text.Tie as tie
 
@@ -45,7 +45,7 @@ returns-2 c =
     let room = now (start told .args .room) in
     copied .put .ensures
     ∙ ap (λ (out : List ℕ). written [] out room) (text-front (leafText t) (drawn told .text))
-    ∙ text-put narrow t room (drawn told .none)
+    ∙ text-put narrow t room (drawn told .unrefused)
 
 pub text-spec : {M : Type 1} → statement M
 text-spec =

@@ -9,8 +9,8 @@ use Rattle.laws.proofs.Width.{narrow-facts}
 use Rattle.texts.specs.Text.{holding, withBytes}
 use Rattle.texts.proofs.Laws.{text-front, text-fits, text-count}
 use Rattle.kept.specs.declared.table.Table.{Table}
-use Rattle.drawing.specs.Draw.{leafText}
-use Rattle.drawing.proofs.Laws.Draw.{TextDrawn, leaf-row-lt, text→refused, text→drawn}
+use Rattle.drawing.specs.Draw.{leafText, TextDrawn}
+use Rattle.drawing.proofs.Laws.Draw.{leaf-row-lt, text→refused, text→drawn}
 use Rattle.report.proofs.Laws.Line.{table-refused, table-drawn}
 use Rattle.report.proofs.lines.table_line.Statement.{statement}
 use Rattle.report.proofs.lines.table_line.Tie as tie
@@ -56,7 +56,7 @@ returns-2 c =
     let d = drawn told in
     let front = text-front (leafText (table told)) (d .text) in
     c .tree-line .ensures
-    ∙ ap (withBytes (holding [])) (table-drawn (asked told .before .args .degree) (table told) (d .none) (d .row) front)
+    ∙ ap (withBytes (holding [])) (table-drawn (asked told .before .args .degree) (table told) (d .unrefused) (d .row) front)
 
 pub table-line-spec : {M : Type 1} → statement M
 table-line-spec =
