@@ -1,7 +1,7 @@
 -- `members::nesting::are_nested` meets its contract. The invariant: all are inside and nest with all where those from place i on are and
 -- do. The measure is the places left. Assumes nothing.
-use mathlib.Core.Path.{_≡_, refl, ap₂}
-use mathlib.Core.Bool.{Bool, false, _&&_}
+use mathlib.Core.Path.{ap₂}
+use mathlib.Core.Bool.{_&&_}
 use Prim.Native.Nat.{ℕ, _-_}
 use native.Mathlib.Omega.{arith}
 use borrow.Author.Needs.{needs}
@@ -19,15 +19,10 @@ Inv-loop xs c i₀ i = EveryFrom (λ (a : ℕ). inside a c && every (λ (b : ℕ
 abbrev μ-loop : tie.MeasureT-loop
 μ-loop xs c i₀ i = length xs - i
 
-first-fails : (a b : Bool) → a ≡ false → (a && b) ≡ false
-first-fails a b e = rw e refl
-
--- ---- the needs
 returns : tie.Need-returns Inv-loop μ-loop
 returns c =
     let turn = c .before .before .before in
-    let outside = failed (c .before .is-inside .ensures) (c .if1 .taken) in
-    every-stop (turn .before .loop .inv) (turn .loop-test .taken) (first-fails _ _ outside)
+    every-stop (turn .before .loop .inv) (turn .loop-test .taken) (rw (failed (c .before .is-inside .ensures) (c .if1 .taken)))
 
 returns-2 : tie.Need-returns-2 Inv-loop μ-loop
 returns-2 c =
