@@ -73,10 +73,11 @@ pub fn build(list: &[u8], degree: u32) -> Built
     let listing = read_list(list);
     let answer = listing.answer;
     match answer {
-        Answer::Refused(refusal) => refused(refusal),
-        Answer::Done(_) => Built {
-            answer: Answer::Done(0),
-            table: again(unworked(listing, degree), 0),
-        },
+        Answer::Refused(refusal) => return refused(refusal),
+        Answer::Done(_) => {}
+    }
+    Built {
+        answer: Answer::Done(0),
+        table: again(unworked(listing, degree), 0),
     }
 }

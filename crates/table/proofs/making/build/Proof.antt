@@ -80,8 +80,8 @@ build-spec =
     (λ c κs. search needs)
     (λ c. search needs)
     (λ c κs. search needs)
+    returns-3
     (λ c. search needs)
     (λ c κs. search needs)
     again-requires
-    returns-3
     returns-4)
