@@ -1,7 +1,7 @@
 -- What the private functions that work rows out cite: one row over the columns beneath it, and every row that contains a cluster.
 --     workedTally W k z i d     row i of the columns, with the weight z, from the rows beneath, as the code has it; that it is the paper's
 --                               row: `proofs/Rows/WorkedRow.antt`
---     unworkedTable r d         the rows of a list, in arrays, as a table with no results
+--     unworkedTable             rows in arrays as a table with no results
 --     againTable W t c          the table with every row that contains c worked out again, by the paper's formulas
 --     Ready, Workable           what each may count on
 -- Assumes nothing.
@@ -15,7 +15,6 @@ use Rattle.laws.specs.Cluster.{inside, single}
 use Rattle.laws.specs.Limits.{Width, weightMax, degreeLow, degreeHigh, rowCap, wordValues}
 use Rattle.laws.specs.State.{scored}
 use Rattle.cluster.specs.Rule.{keepsRules}
-use Rattle.lists.specs.Listing.{Listed}
 use Rattle.trees.specs.Rescored.{workedOut, again}
 use Rattle.kept.specs.declared.table.Table.{Table}
 use Rattle.kept.specs.View.{rowAt, entryAt, entriesOf, clustersIn, clustersDown, tableOf}
@@ -38,12 +37,12 @@ workedTally W k z i d =
     (cond (single (getD (k .clusters) i 0)) (ownTally 0 z i) (underTally (W .countMax) (ownTally 1 z i) (foundTally W k i d)))
     noTally
 
-abbrev pub unworkedTable : Listed → ℕ → Table
-unworkedTable r d = record {
-  rows = r .rows;
-  clusters = r .clusters;
-  weights = r .weights;
-  states = r .states;
+abbrev pub unworkedTable : ℕ → List ℕ → List ℤ → List ℕ → ℕ → Table
+unworkedTable n clusters weights states d = record {
+  rows = n;
+  clusters = clusters;
+  weights = weights;
+  states = states;
   lengths = replicate rowCap 0;
   counts = replicate rowCap 0;
   marks = replicate rowCap 0;

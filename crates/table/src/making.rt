@@ -10,13 +10,11 @@ use kept::DEGREE_HIGH;
 use kept::DEGREE_LOW;
 use kept::Table;
 use kept::zero_table;
-use lists::Listing;
 use lists::read_list;
 ghost use mathlib.Core.Path.{_≡_};
 ghost use Rattle.laws.specs.Limits.{narrow};
 ghost use Rattle.cluster.specs.declared.refusal.Answer.the-variants.{Refused};
 ghost use Rattle.cluster.specs.Outcome.{outcomeOf};
-ghost use Rattle.lists.specs.Listing.{listingOf};
 ghost use Rattle.kept.specs.View.{zeroTable};
 ghost use Rattle.table.specs.Build.{buildTable};
 ghost use Rattle.table.specs.Working.{unworkedTable};
@@ -38,17 +36,20 @@ fn refused(refusal: Refusal) -> Built
 }
 
 // The rows of a list as a table with no results.
-fn unworked(listing: Listing, degree: u32) -> Table
-    ensures { λ t. ⌜ t ≡ unworkedTable (listingOf listing .given) degree ⌝ }
+fn unworked<'a>(
+    clusters: &'a [u64; 128],
+    weights: &'a [i32; 128],
+    states: &'a [u8; 128],
+    rows: usize,
+    degree: u32,
+) -> Table
+    ensures { λ t. ⌜ t ≡ unworkedTable rows (now (clusters .entry)) (now (weights .entry)) (now (states .entry)) degree ⌝ }
 {
-    let clusters = listing.clusters;
-    let weights = listing.weights;
-    let states = listing.states;
     Table {
-        rows: listing.rows,
-        clusters,
-        weights,
-        states,
+        rows,
+        clusters: *clusters,
+        weights: *weights,
+        states: *states,
         lengths: [0; 128],
         counts: [0; 128],
         marks: [0; 128],
@@ -73,10 +74,20 @@ pub fn build(list: &[u8], degree: u32) -> Built
     let listing = read_list(list);
     let answer = listing.answer;
     match answer {
-        Answer::Refused(refusal) => refused(refusal),
-        Answer::Done(_) => Built {
-            answer: Answer::Done(0),
-            table: again(unworked(listing, degree), 0),
-        },
+        Answer::Refused(refusal) => return refused(refusal),
+        Answer::Done(_) => {}
+    }
+    Built {
+        answer: Answer::Done(0),
+        table: again(
+            unworked(
+                &listing.clusters,
+                &listing.weights,
+                &listing.states,
+                listing.rows,
+                degree,
+            ),
+            0,
+        ),
     }
 }

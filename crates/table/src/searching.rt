@@ -41,15 +41,17 @@ pub(crate) fn place_below(clusters: &[u64], past: usize, n: usize, value: u64) -
     low
 }
 
-// For each taxon, how many of the first `n` rows lie below it; the last start stays `n`.
+// For each taxon, how many of the first `n` rows lie below it, among them those below the taxon before; the last start stays `n`.
 pub(crate) fn put_starts(starts: &mut [usize; 65], clusters: &[u64], n: usize)
     requires { ⌜ now starts ≡ replicate 65 n ⌝ }
     requires { ⌜ Rising (now clusters) n ⌝ }
     ensures { λ _. ⌜ Starts (now (clusters .entry)) n (now (starts .exit)) ⌝ }
 {
+    let mut past = 0;
     let mut taxon: usize = 0;
     while taxon < 64 {
-        starts[taxon] = place_below(clusters, 0, n, 1u64 << taxon);
+        past = place_below(clusters, past, n, 1u64 << taxon);
+        starts[taxon] = past;
         taxon += 1;
     }
 }

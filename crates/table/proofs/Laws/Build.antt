@@ -5,7 +5,7 @@
 --     clusters-of-rows        the clusters of rows, beside any results
 --     unworkedRow, unworked-clusters     a row with no results
 --     again-built             rows worked out from rows with no results are the built ones
---     unworked-is             a listing's arrays as a table with no results: the table of rows with none
+--     unworkedOf, unworked-is     a listing's arrays as a table with no results: the table of rows with none
 --     again-is, workable      its rows may be worked out, and so worked out they are the built table
 --     build-out, build-refused, build-workable, build-done     the ways in which the code ends
 -- Assumes nothing.
@@ -131,7 +131,11 @@ module _ {A : Type 0} (z : A) (f : Entry Result → A) where
       zero-column e rs (omega arith)
       ∙ column-keep z f (unworkedRow r) (map unworkedRow rs) (omega (arith, length-map rs unworkedRow)) (e r)
 
-pub unworked-is : (d : ℕ) (rs : List Row) → length rs ≤ rowCap → unworkedTable (listed rs) d ≡ tableOf d (map unworkedRow rs)
+-- the rows of a list, as reading it gives them
+abbrev pub unworkedOf : Listed → ℕ → Table
+unworkedOf s d = unworkedTable (s .rows) (s .clusters) (s .weights) (s .states) d
+
+pub unworked-is : (d : ℕ) (rs : List Row) → length rs ≤ rowCap → unworkedOf (listed rs) d ≡ tableOf d (map unworkedRow rs)
 unworked-is d rs h = λ i. record {
   rows = sym (length-map rs unworkedRow) i;
   clusters = listed-column 0 (λ (e : Entry Result). e .row .cluster) rs i;
@@ -221,13 +225,13 @@ module _ (W : Width) (l : List ℕ) (d : ℕ) where
         rows : Buildable W d (rowsOf W l)
         rows = buildable facts degree byte (accepted-iff W l .0 (none-iff (listReasons W l) .0 (told .0)))
 
-        table-is : unworkedTable s d ≡ tableOf d (map unworkedRow (rowsOf W l))
-        table-is = ap (λ (x : Listed). unworkedTable x d) (told .1) ∙ unworked-is d (rowsOf W l) (omega (arith, rows .capped, facts .rows))
+        table-is : unworkedOf s d ≡ tableOf d (map unworkedRow (rowsOf W l))
+        table-is = ap (λ (x : Listed). unworkedOf x d) (told .1) ∙ unworked-is d (rowsOf W l) (omega (arith, rows .capped, facts .rows))
 
-        pub build-workable : Workable W (unworkedTable s d) 0
+        pub build-workable : Workable W (unworkedOf s d) 0
         build-workable = subst (λ (t : Table). Workable W t 0) (sym table-is) (workable facts rows)
 
-        pub build-done : {t : Table} → t ≡ againTable W (unworkedTable s d) 0 → outcomeOf (Done 0) t ≡ buildTable W l d
+        pub build-done : {t : Table} → t ≡ againTable W (unworkedOf s d) 0 → outcomeOf (Done 0) t ≡ buildTable W l d
         build-done q =
             ap (outcomeOf (Done 0)) (q ∙ ap (λ (t : Table). againTable W t 0) table-is ∙ again-is facts rows)
             ∙ sym (build-of W l d (reasons-of (told .0)))

@@ -7,23 +7,21 @@ use mathlib.Core.Path.{_≡_, sym, ap, _∙_}
 use mathlib.Core.Bool.{Bool, cond}
 use Prim.Native.Nat.{ℕ, _+_, _-_, _*_, _/_, _%_, _^_, _≤_, _<_}
 use native.Mathlib.Decide.{decLt}
-use native.Mathlib.Nat.{one-mul, mod-eq-of-lt, div-eq-of-lt}
+use native.Mathlib.Nat.{mod-eq-of-lt, div-eq-of-lt}
 use native.Mathlib.Omega.{arith}
 use lib.IntN.{ℤ}
 use lib.Pow.{pow-lt, pow-add, high, low}
 use borrow.Author.Tests.{lt-ltb, le-ltb}
 use Rattle.laws.specs.Limits.{wordValues}
+use Rattle.kept.proofs.Laws.Marks.{shifted}
 use Rattle.table.specs.declared.tally.Tally.{Tally}
 use Rattle.table.specs.Tally.{lowMark, highMark, ownTally}
 
 -- ---- the code's cases
 
-shift-small : (i : ℕ) → i < 64 → (1 * 2 ^ i) % wordValues ≡ 2 ^ i
-shift-small i h = ap (λ (n : ℕ). n % wordValues) (one-mul (2 ^ i)) ∙ mod-eq-of-lt (pow-lt h)
-
 module _ (i : ℕ) where
   pub low-mark-shift : i < 64 → (1 * 2 ^ i) % wordValues ≡ lowMark i
-  low-mark-shift h = shift-small i h ∙ ap (λ (b : Bool). cond b (2 ^ i) 0) (sym (lt-ltb i 64 h))
+  low-mark-shift h = shifted i h ∙ ap (λ (b : Bool). cond b (2 ^ i) 0) (sym (lt-ltb i 64 h))
 
   pub low-mark-none : 64 ≤ i → 0 ≡ lowMark i
   low-mark-none h = ap (λ (b : Bool). cond b (2 ^ i) 0) (sym (le-ltb i 64 h))
@@ -32,7 +30,7 @@ module _ (i : ℕ) where
   high-mark-none h = ap (λ (b : Bool). cond b 0 (2 ^ (i - 64))) (sym (lt-ltb i 64 h))
 
   pub high-mark-shift : 64 ≤ i → i < 128 → (1 * 2 ^ (i - 64)) % wordValues ≡ highMark i
-  high-mark-shift h k = shift-small (i - 64) (omega arith) ∙ ap (λ (b : Bool). cond b 0 (2 ^ (i - 64))) (sym (le-ltb i 64 h))
+  high-mark-shift h k = shifted (i - 64) (omega arith) ∙ ap (λ (b : Bool). cond b 0 (2 ^ (i - 64))) (sym (le-ltb i 64 h))
 
 -- ---- the words of 2 ^ i
 

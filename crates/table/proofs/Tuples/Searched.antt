@@ -1,8 +1,7 @@
 -- Rows in ascending order, and how many of them lie below a number; the rows as parts, and the sums over covers by them.
---     past-none                no row is known to be below
 --     Between, between-…       what bisection keeps: the first are below, the last are not
 --     below-le, below-mono     the place is not after a row that isn't below, nor after that of a larger number
---     Begun, begun-none, begun-more, starts-of-begun     where each highest taxon starts, taxon by taxon
+--     Begun, begun-none, begun-asks, begun-more, starts-of-begun     where each highest taxon starts, taxon by taxon
 --     parts-descend            the parts of the first rows fall
 --     parts-within             rows above a bound in front leave the others as they are
 --     sumCovers-over           the sum over the covers by scored rows
@@ -14,12 +13,12 @@ use mathlib.Core.Logic.{_≢_}
 use mathlib.Core.List.{List, map, List·Memᴰ as Mem}
 use Prim.Native.Nat.{ℕ, zero, suc, _+_, _*_, _%_, _^_, _≤_, _<_}
 use native.Mathlib.Decide.{ℕ-discrete, decLe, decLt}
-use native.Mathlib.Nat.{le-refl, one-mul}
+use native.Mathlib.Nat.{le-refl, lt-of-lt-of-le}
 use native.Mathlib.Omega.{arith}
 use lib.Arith.{le-zero}
-use lib.Dec.{T, leb, leb→le, lit<}
+use lib.Dec.{T, leb, leb→le}
 use lib.ListN.{length, getD, set, replicate, length-set, length-replicate, getD-replicate}
-use lib.Pow.{shl-exact}
+use lib.Pow.{pow-mono}
 use lib.Seq.{getD-set-same, getD-set-other}
 use Rattle.laws.specs.Lists.{keepIf, keep, downTo}
 use Rattle.laws.proofs.Descends.{Descends, descends-of-falling}
@@ -35,6 +34,7 @@ use Rattle.trees.proofs.Searching.Leads.{within, coversOf-scored}
 use Rattle.trees.proofs.Searching.Search.{search}
 use Rattle.trees.proofs.Searching.SearchSum.{search-is}
 use Rattle.kept.specs.Arrays.{Rising}
+use Rattle.kept.proofs.Laws.Marks.{shifted}
 use Rattle.table.specs.Searched.{Past, Below, Starts}
 use Rattle.table.specs.Columns.{Columns, partAt, partsOf, sumKind, sumCovers}
 
@@ -48,9 +48,6 @@ pub record Between (cs : List ℕ) (n v low high : ℕ) : Type 0 where
   pub more : (i : ℕ) → high ≤ i → i < n → v ≤ getD cs i 0
 
 module _ (cs : List ℕ) (n v : ℕ) where
-  pub past-none : Past cs n v 0
-  past-none = record { within = omega arith; less = λ i h. absurd (omega arith) }
-
   pub between-past : (low : ℕ) → Past cs n v low → Between cs n v low n
   between-past low p = record { ordered = p .within; within = omega arith; less = p .less; more = λ i h k. absurd (omega arith) }
 
@@ -100,46 +97,54 @@ module _ (cs : List ℕ) (n v : ℕ) where
 
 -- ---- where each highest taxon starts
 
--- told for the taxa below t; the last is all rows
-pub record Begun (cs : List ℕ) (n t : ℕ) (starts : List ℕ) : Type 0 where
+-- the starts of the taxa below t; p rows are below t, and the last start is all rows
+pub record Begun (cs : List ℕ) (n t p : ℕ) (starts : List ℕ) : Type 0 where
   pub long : length starts ≡ 65
   pub within : t ≤ 64
   pub each : (h : ℕ) → h < t → Below cs n (2 ^ h) (getD starts h 0)
+  pub past : Past cs n (2 ^ t) p
   pub last : getD starts 64 0 ≡ n
 
-module _ (cs : List ℕ) (n : ℕ) where
-  pub begun-none : Begun cs n 0 (replicate 65 n)
+module _ {cs : List ℕ} {n : ℕ} where
+  pub begun-none : Begun cs n 0 0 (replicate 65 n)
   begun-none = record {
     long = length-replicate 65 n;
     within = omega arith;
     each = λ h l. absurd (omega arith);
+    past = record { within = omega arith; less = λ i h. absurd (omega arith) };
     last = getD-replicate 65 64 n 0 (omega arith);
   }
 
-  -- a shift of 1 by t bits, as a word
-  pub begun-more : (t r : ℕ) (starts : List ℕ) → Begun cs n t starts → t < 64 → Below cs n ((1 * 2 ^ t) % 2 ^ 64) r
-      → Begun cs n (t + 1) (set starts t r)
-  begun-more t r starts b k w = record {
-    long = length-set starts t r ∙ b .long;
-    within = omega arith;
-    each = λ h l. go h (ℕ-discrete h t) l;
-    last = getD-set-other starts t 64 r 0 (λ e. omega arith) ∙ b .last;
-  }
-    where
-      shift : (1 * 2 ^ t) % 2 ^ 64 ≡ 2 ^ t
-      shift = shl-exact {a = 1} 1 t 64 (lit< tt) (omega arith) ∙ one-mul (2 ^ t)
+  module _ {t p : ℕ} {starts : List ℕ} (b : Begun cs n t p starts) where
+    pub begun-asks : t < 64 → Past cs n ((1 * 2 ^ t) % 2 ^ 64) p
+    begun-asks k = subst (λ (v : ℕ). Past cs n v p) (sym (shifted t k)) (b .past)
 
-      go : (h : ℕ) → Dec (h ≡ t) → h < t + 1 → Below cs n (2 ^ h) (getD (set starts t r) h 0)
-      go h (yes e) l = rw (e, getD-set-same starts t r 0 (omega (arith, b .long))) (subst (λ (v : ℕ). Below cs n v r) shift w)
-      go h (no f) l = rw (getD-set-other starts t h r 0 f) (b .each h (omega arith))
+    pub begun-more : {r : ℕ} → t < 64 → Below cs n ((1 * 2 ^ t) % 2 ^ 64) r → Begun cs n (t + 1) r (set starts t r)
+    begun-more {r} k w = record {
+      long = length-set starts t r ∙ b .long;
+      within = omega arith;
+      each = λ h l. go h (ℕ-discrete h t) l;
+      past = record {
+        within = below .within;
+        less = λ i h. lt-of-lt-of-le (below .less i h) (pow-mono (let more : t ≤ t + 1 = omega arith in more));
+      };
+      last = getD-set-other starts t 64 r 0 (λ e. omega arith) ∙ b .last;
+    }
+      where
+        below : Below cs n (2 ^ t) r
+        below = subst (λ (v : ℕ). Below cs n v r) (shifted t k) w
 
-  pub starts-of-begun : (t : ℕ) (starts : List ℕ) → Begun cs n t starts → 64 ≤ t → ((i : ℕ) → getD cs i 0 < 2 ^ 64) → Starts cs n starts
-  starts-of-begun t starts b k w = record { long = b .long; each = λ h l. go h (ℕ-discrete h 64) l }
-    where
-      go : (h : ℕ) → Dec (h ≡ 64) → h ≤ 64 → Below cs n (2 ^ h) (getD starts h 0)
-      go h (yes e) l =
-          rw (e, b .last) (record { within = le-refl n; less = λ i j. w i; more = λ i j p. absurd (omega arith) })
-      go h (no f) l = b .each h (omega arith)
+        go : (h : ℕ) → Dec (h ≡ t) → h < t + 1 → Below cs n (2 ^ h) (getD (set starts t r) h 0)
+        go h (yes e) l = rw (e, getD-set-same starts t r 0 (omega (arith, b .long))) below
+        go h (no f) l = rw (getD-set-other starts t h r 0 f) (b .each h (omega arith))
+
+    pub starts-of-begun : 64 ≤ t → ((i : ℕ) → getD cs i 0 < 2 ^ 64) → Starts cs n starts
+    starts-of-begun k w = record { long = b .long; each = λ h l. go h (ℕ-discrete h 64) l }
+      where
+        go : (h : ℕ) → Dec (h ≡ 64) → h ≤ 64 → Below cs n (2 ^ h) (getD starts h 0)
+        go h (yes e) l =
+            rw (e, b .last) (record { within = le-refl n; less = λ i j. w i; more = λ i j p. absurd (omega arith) })
+        go h (no f) l = b .each h (omega arith)
 
 -- ---- the rows as parts
 

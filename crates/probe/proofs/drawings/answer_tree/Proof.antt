@@ -15,8 +15,6 @@ pub answer-tree-spec : {M : Type 1} → statement M
 answer-tree-spec =
     tie.close
     (tie.spec
-    (λ c κs. search needs)
-    (λ c. search needs)
     (λ c. search needs)
     (λ c κs. search needs)
     (λ c. search needs)

@@ -53,20 +53,26 @@ returns-3 c =
     ∙ build-refused narrow (now (s .args .list)) (s .args .degree) (degree (at-list .before)) (at-list .read-list .ensures)
     (at-answer .answer .given .1)
 
+-- the list is taken, from where its rows are a table
+abbrev taken : tie.After-unworked → tie.After-enum-told
+taken c = c .before .before .before .before .before
+
 again-requires : tie.Need-again-requires
 again-requires c κs =
-    let at-list = c .before .before .before in
+    let told = taken c in
+    let at-list = told .before .before in
     let s = start at-list in
     rw (c .unworked .ensures)
     (build-workable narrow (now (s .args .list)) (s .args .degree) (degree (at-list .before)) (at-list .read-list .ensures) narrow-facts
-    (bytes at-list) (c .before .enum-told .given .1))
+    (bytes at-list) (told .enum-told .given .1))
 
 returns-4 : tie.Need-returns-4
 returns-4 c =
-    let at-list = c .before .before .before .before in
+    let told = taken (c .before) in
+    let at-list = told .before .before in
     let s = start at-list in
     build-done narrow (now (s .args .list)) (s .args .degree) (degree (at-list .before)) (at-list .read-list .ensures) narrow-facts
-    (bytes at-list) (c .before .before .enum-told .given .1)
+    (bytes at-list) (told .enum-told .given .1)
     (c .again .ensures ∙ ap (λ (t : Table). againTable narrow t 0) (c .before .unworked .ensures))
 
 pub build-spec : {M : Type 1} → statement M
@@ -80,8 +86,8 @@ build-spec =
     (λ c κs. search needs)
     (λ c. search needs)
     (λ c κs. search needs)
+    returns-3
     (λ c. search needs)
     (λ c κs. search needs)
     again-requires
-    returns-3
     returns-4)

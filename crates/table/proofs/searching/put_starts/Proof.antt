@@ -3,31 +3,30 @@
 use mathlib.Core.Path.{sym, subst}
 use Prim.Native.Nat.{_-_}
 use native.Mathlib.Omega.{arith}
-use Rattle.table.proofs.Tuples.Searched.{past-none, Begun, begun-none, begun-more, starts-of-begun}
+use Rattle.table.proofs.Tuples.Searched.{Begun, begun-none, begun-asks, begun-more, starts-of-begun}
 use Rattle.table.proofs.searching.put_starts.Statement.{statement}
 use Rattle.table.proofs.searching.put_starts.Tie as tie
 
 abbrev Inv-loop : tie.InvT-loop
-Inv-loop starts₀ clusters n taxon₀ starts taxon = Begun clusters n taxon starts
+Inv-loop starts₀ clusters n past₀ taxon₀ starts past taxon = Begun clusters n taxon past starts
 
 abbrev μ-loop : tie.MeasureT-loop
-μ-loop starts₀ clusters n taxon₀ starts taxon = 64 - taxon
+μ-loop starts₀ clusters n past₀ taxon₀ starts past taxon = 64 - taxon
 
 loop-holds : tie.Need-loop-holds Inv-loop μ-loop
-loop-holds c = subst (Begun _ _ 0) (sym (c .before .pre .0)) (begun-none _ _)
+loop-holds c = subst (Begun _ _ 0 0) (sym (c .before .pre .0)) begun-none
 
 place-below-requires : tie.Need-place-below-requires Inv-loop μ-loop
-place-below-requires c κs = (c .before .before .before .pre .1, past-none _ _ _)
+place-below-requires c κs = (c .before .before .before .pre .1, begun-asks (c .before .loop .inv) (c .loop-test .taken))
 
 loop-again : tie.Need-loop-again Inv-loop μ-loop
 loop-again c =
     let at-loop = c .before .before in
-    begun-more _ _ _ _ _ (at-loop .loop .inv) (omega arith) (c .place-below .ensures)
+    begun-more (at-loop .loop .inv) (c .before .loop-test .taken) (c .place-below .ensures)
 
 returns : tie.Need-returns Inv-loop μ-loop
 returns c =
-    starts-of-begun _ _ _ _ (c .before .loop .inv) (c .loop-test .left)
-    (λ i. c .before .before .shared-slice-known .given i .fits)
+    starts-of-begun (c .before .loop .inv) (c .loop-test .left) (λ i. c .before .before .shared-slice-known .given i .fits)
 
 pub put-starts-spec : {M : Type 1} → statement M
 put-starts-spec =
