@@ -46,8 +46,10 @@ loop-less c = search needs
 loop-again : tie.Need-loop-again Inv-loop μ-loop
 loop-again c =
     let at-loop = c .before .before .before in
-    let changed = c .before .rescore in
-    (omega arith, rescored-more _ _ _ _ (at-loop .loop .done) (at-loop .loop .t) (changed .result) (at-loop .loop .inv .1) (changed .ensures))
+    let changed = c .before .rescore in (
+      omega arith,
+      rescored-more _ _ _ _ (at-loop .loop .done) (at-loop .loop .t) (changed .result) (at-loop .loop .inv .1) (changed .ensures),
+    )
 
 digest-of-requires : tie.Need-digest-of-requires Inv-loop μ-loop
 digest-of-requires c κs = search needs
