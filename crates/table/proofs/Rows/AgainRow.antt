@@ -120,8 +120,7 @@ module _ {W : Width} (facts : WidthFacts W) {given : Table} {c : ℕ} (w : Worka
       begins = clusters-same (λ (l : List ℕ). Starts l (given .rows) starts) s;
       nonzero = clusters-same (λ (l : List ℕ). 0 < getD l i 0) (cluster-pos W (rowAt given i) (w .rules i h));
       small = clusters-same (λ (l : List ℕ). getD l i 0 < wordValues) (cluster-word facts w i h);
-      low = w .low;
-      high = w .high;
+      degree = w .degree;
       light = subst (λ (l : List ℤ). natAbs (getD l i (pos 0)) ≤ weightMax) (sym (p .weights))
           (given-rules facts w i h .1 .score .in-range);
     }
