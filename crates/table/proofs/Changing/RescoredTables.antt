@@ -42,6 +42,7 @@ use Rattle.kept.proofs.Laws.View.{entries-table}
 use Rattle.table.specs.declared.rescoring.Rescored.{Rescored}
 use Rattle.table.specs.Rescore.{rescoreReasons, newTable, rescoreTable}
 use Rattle.table.proofs.Changing.Rescore.{rescore-of}
+use Rattle.table.proofs.Fitting.FitTables.{putEntry}
 
 -- ---- which rescorings are taken, and why the others are refused
 
@@ -82,21 +83,18 @@ Agree c (e ∷ es) [] = ⊥
 Agree c (e ∷ es) (x ∷ xs) = (inside c (cl e) ≡ false → x ≡ e) × Agree c es xs
 
 module _ (F : Row → List (Entry Result) → Result) (c : ℕ) (z : ℤ) (s : ℕ) where
-  abbrev withScore : Entry Result → Entry Result
-  withScore e = record { row = putScore c z s (e .row); val = e .val }
-
-  rescored-agree : (es : List (Entry Result)) → Agree c es (again F c (map withScore es))
+  rescored-agree : (es : List (Entry Result)) → Agree c es (again F c (map (putEntry c z s) es))
   rescored-agree [] = tt
   rescored-agree (e ∷ es) = go (inside c (putScore c z s (e .row) .cluster)) refl (rescored-agree es)
     where
       same : inside c (putScore c z s (e .row) .cluster) ≡ inside c (cl e)
       same = ap (inside c) (put-cluster c z s (e .row))
 
-      stays : inside c (cl e) ≡ false → withScore e ≡ e
+      stays : inside c (cl e) ≡ false → putEntry c z s e ≡ e
       stays n = ap (λ (r : Row). record { row = r; val = e .val }) (put-other c z s (e .row) (λ h. subst T n h))
 
-      go : (b : Bool) → inside c (putScore c z s (e .row) .cluster) ≡ b → Agree c es (again F c (map withScore es))
-          → Agree c (e ∷ es) (againIf F b (withScore e) (again F c (map withScore es)))
+      go : (b : Bool) → inside c (putScore c z s (e .row) .cluster) ≡ b → Agree c es (again F c (map (putEntry c z s) es))
+          → Agree c (e ∷ es) (againIf F b (putEntry c z s e) (again F c (map (putEntry c z s) es)))
       go true q k = (λ n. absurd (true≢false (sym q ∙ same ∙ n)), k)
       go false q k = (stays, k)
 

@@ -5,11 +5,11 @@
 --     score-workable          its rows may be worked out again
 --     score-again             and the table so worked out is the rescored one
 -- Assumes nothing.
-use mathlib.Core.Path.{_≡_, refl, sym, ap, ap₂, _∙_, subst}
+use mathlib.Core.Path.{_≡_, sym, ap, ap₂, _∙_, subst}
 use mathlib.Core.Logic.{_≢_}
 use mathlib.Core.Bool.{Bool, true, false, cond}
-use mathlib.Core.List.{List, _∷_, map}
-use Prim.Native.Nat.{ℕ, zero, suc, _-_, _≤_, _<_}
+use mathlib.Core.List.{List, map}
+use Prim.Native.Nat.{ℕ, _-_, _≤_, _<_}
 use native.Mathlib.Decide.{decLt, ℕ-discrete}
 use native.Mathlib.Omega.{arith}
 use borrow.Author.Tests.{eq-eqb, ne-eqb, lt-ltb, le-ltb}
@@ -21,10 +21,11 @@ use Rattle.laws.specs.Cluster.{inside}
 use Rattle.laws.specs.Limits.{Width, rowCap, wordValues}
 use Rattle.laws.specs.Widths.{WidthFacts}
 use Rattle.laws.proofs.Cluster.{inside-refl}
+use Rattle.laws.proofs.Down.{down-ext, down-map}
 use Rattle.cluster.specs.Rule.{isScore, keepsRules}
 use Rattle.trees.specs.Rows.{Entry}
 use Rattle.trees.specs.Result.{Result}
-use Rattle.trees.specs.Rescored.{putScore, workedOut, again}
+use Rattle.trees.specs.Rescored.{workedOut, again}
 use Rattle.kept.specs.declared.table.Table.{Table}
 use Rattle.kept.specs.View.{rowAt, entryAt, entriesOf, clustersIn, tableOf}
 use Rattle.kept.specs.Fit.{fitEntry, isFit}
@@ -36,7 +37,7 @@ use Rattle.kept.proofs.Laws.Clusters.{clusters-are}
 use Rattle.kept.proofs.Laws.Rows.{hasRow-is, placeOf-at}
 use Rattle.table.specs.Rescore.{newTable}
 use Rattle.table.specs.Working.{againTable, Workable}
-use Rattle.table.proofs.Fitting.FitTables.{put-rules}
+use Rattle.table.proofs.Fitting.FitTables.{putEntry, put-rules}
 
 -- ---- the row of the cluster, as the code looks it up
 
@@ -98,9 +99,6 @@ module _ (W : Width) (facts : WidthFacts W) (t : Table) (c : ℕ) (z : ℤ) (s :
   known : FitTable W t
   known = isFit→ W facts t fit
 
-  abbrev putE : Entry Result → Entry Result
-  putE e = record { row = putScore c z s (e .row); val = e .val }
-
   -- no other row has the cluster
   only : (j : ℕ) → j < t .rows → j ≢ i → getD (t .clusters) j 0 ≢ c
   only j h n e = go (decLt j i)
@@ -109,7 +107,7 @@ module _ (W : Width) (facts : WidthFacts W) (t : Table) (c : ℕ) (z : ℤ) (s :
       go (yes l) = omega (arith, known .rising j i l place, e, found)
       go (no l) = omega (arith, known .rising i j (omega arith) h, e, found)
 
-  score-entry : (j : ℕ) → j < t .rows → entryAt new j ≡ putE (entryAt t j)
+  score-entry : (j : ℕ) → j < t .rows → entryAt new j ≡ putEntry c z s (entryAt t j)
   score-entry j h = go (ℕ-discrete j i)
     where
       put : Bool → Entry Result
@@ -128,10 +126,10 @@ module _ (W : Width) (facts : WidthFacts W) (t : Table) (c : ℕ) (z : ℤ) (s :
           ∙ ap put (sym (eq-eqb (getD (t .clusters) j 0) c (ap (λ (n : ℕ). getD (t .clusters) n 0) e ∙ found)))
       go (no n) = score-other t i z s j n ∙ ap put (sym (ne-eqb (getD (t .clusters) j 0) c (only j h n)))
 
-  pub score-entries : (n : ℕ) → n ≤ t .rows → entriesOf new n ≡ map putE (entriesOf t n)
-  score-entries zero h = refl
-  score-entries (suc n) h =
-      ap₂ (λ (e : Entry Result) (l : List (Entry Result)). e ∷ l) (score-entry n (omega arith)) (score-entries n (omega arith))
+  pub score-entries : (n : ℕ) → n ≤ t .rows → entriesOf new n ≡ map (putEntry c z s) (entriesOf t n)
+  score-entries n h =
+      down-ext (entryAt new) (λ (j : ℕ). putEntry c z s (entryAt t j)) n (λ j k. score-entry j (omega arith))
+      ∙ sym (down-map (putEntry c z s) (entryAt t) n)
 
   score-clusters : clustersIn new ≡ clustersIn t
   score-clusters = clusters-are new (t .rows) ∙ sym (clusters-are t (t .rows))

@@ -3,7 +3,7 @@
 --     carried                so may rows with the same clusters
 --     table-fit              the table of fit rows is fit
 --     again-table-fit        so is that of rows worked out again
---     rescored-fit           a fit table, rescored, is fit
+--     putEntry, rescored-fit     a fit table, rescored, is fit
 --     built-fit              a built table is fit
 -- Assumes nothing.
 use mathlib.Core.Path.{_≡_, refl, sym, ap, _∙_, subst}
@@ -115,10 +115,11 @@ module _ (W : Width) (facts : WidthFacts W) (d c : ℕ) (es : List (Entry Result
 
 -- ---- rescored
 
-module _ (W : Width) (c : ℕ) (z : ℤ) (s : ℕ) (score : T (isScore z s)) where
-  abbrev withScore : Entry Result → Entry Result
-  withScore e = record { row = putScore c z s (e .row); val = e .val }
+-- the new score in the row of c, beside the results as they were
+abbrev pub putEntry : ℕ → ℤ → ℕ → Entry Result → Entry Result
+putEntry c z s e = record { row = putScore c z s (e .row); val = e .val }
 
+module _ (W : Width) (c : ℕ) (z : ℤ) (s : ℕ) (score : T (isScore z s)) where
   pub put-rules : (r : Row) → T (keepsRules W r) → T (keepsRules W (putScore c z s r))
   put-rules r h = go (eqb (r .cluster) c)
     where
@@ -129,21 +130,21 @@ module _ (W : Width) (c : ℕ) (z : ℤ) (s : ℕ) (score : T (isScore z s)) whe
           (record { has-taxon = q .1 .has-taxon; no-spare = refl; score = score→keeps z s score })
       go false = h
 
-  put-clusters : (es : List (Entry Result)) → map cl (map withScore es) ≡ map cl es
-  put-clusters = map-through withScore cl cl (λ e. put-cluster c z s (e .row))
+  put-clusters : (es : List (Entry Result)) → map cl (map (putEntry c z s) es) ≡ map cl es
+  put-clusters = map-through (putEntry c z s) cl cl (λ e. put-cluster c z s (e .row))
 
   module _ (d : ℕ) (es : List (Entry Result)) (k : FitRows W d es) where
-    pub put-rows : Rows W d (map withScore es)
-    put-rows = carried W d es (map withScore es) _ _ (put-clusters es) k (λ x m.
-        let q = Memᴰ·of-map withScore es m in
+    pub put-rows : Rows W d (map (putEntry c z s) es)
+    put-rows = carried W d es (map (putEntry c z s) es) _ _ (put-clusters es) k (λ x m.
+        let q = Memᴰ·of-map (putEntry c z s) es m in
         subst (λ (e : Entry Result). T (keepsRules W (e .row))) (q .2)
         (put-rules (q .0 .row) (fit-rules W (map cl es) (q .0) (k .each (q .0) (q .1)))))
 
     -- the rows that don't contain c stay
-    pub put-fit : (x : Entry Result) → Mem x (map withScore es) → (T (inside c (cl x)) → ⊥)
-        → T (fitEntry W (map cl (map withScore es)) x)
+    pub put-fit : (x : Entry Result) → Mem x (map (putEntry c z s) es) → (T (inside c (cl x)) → ⊥)
+        → T (fitEntry W (map cl (map (putEntry c z s) es)) x)
     put-fit x m n =
-        let q = Memᴰ·of-map withScore es m in
+        let q = Memᴰ·of-map (putEntry c z s) es m in
         let at : cl (q .0) ≡ cl x = sym (put-cluster c z s (q .0 .row)) ∙ ap cl (q .2) in
         let out : T (inside c (cl (q .0))) → ⊥ = λ t. n (subst (λ (y : ℕ). T (inside c y)) at t) in
         let same : q .0 ≡ x = ap (λ (r : Row). record { row = r; val = q .0 .val }) (sym (put-other c z s (q .0 .row) out)) ∙ q .2 in
@@ -152,8 +153,8 @@ module _ (W : Width) (c : ℕ) (z : ℤ) (s : ℕ) (score : T (isScore z s)) whe
 
     put-table-fit : WidthFacts W → T (isFit W (tableOf d (rescored W d (map cl es) c z s es)))
     put-table-fit facts =
-        subst (λ (cs : List ℕ). T (isFit W (tableOf d (again (workedOut W d cs) c (map withScore es))))) (put-clusters es)
-        (again-table-fit W facts d c (map withScore es) put-rows put-fit)
+        subst (λ (cs : List ℕ). T (isFit W (tableOf d (again (workedOut W d cs) c (map (putEntry c z s) es))))) (put-clusters es)
+        (again-table-fit W facts d c (map (putEntry c z s) es) put-rows put-fit)
 
 pub fit-rows : (W : Width) → WidthFacts W → (t : Table) → T (isFit W t) → FitRows W (t .degree) (entriesOf t (t .rows))
 fit-rows W facts t h =

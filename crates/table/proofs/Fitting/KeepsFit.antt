@@ -146,15 +146,15 @@ fields-range limit n h k = go (past limit n)
 
 module _ (limit : ℕ) (one-limit : 1 ≤ limit) (cs : List ℕ) (falls : Falling cs) (r : Row) (listed : Mem (r .cluster) cs) (n : ℕ) where
   -- the members of a rooted result, as marks
-  rooted-told : (v : Option Sol) → RootedSol cs (r .cluster) v → Matched cs r (encodeSol limit n v)
-  rooted-told none k = record {
+  rooted-matched : (v : Option Sol) → RootedSol cs (r .cluster) v → Matched cs r (encodeSol limit n v)
+  rooted-matched none k = record {
     below = pow-pos (length cs);
     none = λ e. (refl, refl, refl);
     own = λ f. absurd (f refl);
     inner = λ f. absurd (f refl);
     light = λ f. absurd (f refl);
   }
-  rooted-told (some x) k = record {
+  rooted-matched (some x) k = record {
     below = below;
     none = λ e. absurd (omega (arith, fields-range limit (x .0) one-limit (k .held .counted) .0, e));
     own = λ f. subst T (sym (same (r .cluster) listed)) (k .own);
@@ -207,7 +207,7 @@ module _ (W : Width) (one-limit : 1 ≤ W .countMax) (d : ℕ) (cs : List ℕ) (
             (length-le (isScored r && not (single (r .cluster)))) (no-length (isScored r) (single (r .cluster)))
             (no-result (isScored r) (single (r .cluster)));
         matched =
-            rooted-told (W .countMax) one-limit cs (o .falls) r (o .listed) (trueResult d cs r rows .0) (trueResult d cs r rows .1) rooted;
+            rooted-matched (W .countMax) one-limit cs (o .falls) r (o .listed) (trueResult d cs r rows .0) (trueResult d cs r rows .1) rooted;
       }))
     where
       count : ℕ

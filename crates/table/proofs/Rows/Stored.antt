@@ -3,15 +3,14 @@
 --     stored t i r         the table with the results r in row i
 --     stored-same, stored-other, stored-entries, stored-sized
 -- Assumes nothing.
-use mathlib.Core.Path.{_≡_, refl, sym, ap₂, _∙_, subst}
+use mathlib.Core.Path.{_≡_, sym, _∙_, subst}
 use mathlib.Core.Logic.{_≢_}
-use mathlib.Core.List.{List, _∷_}
-use Prim.Native.Nat.{ℕ, zero, suc, _+_, _*_, _≤_, _<_}
+use Prim.Native.Nat.{ℕ, _+_, _*_, _≤_, _<_}
 use native.Mathlib.Omega.{arith}
 use lib.IntN.{pos}
 use lib.ListN.{set, length-set}
 use lib.Seq.{getD-set-same, getD-set-other}
-use Rattle.trees.specs.Rows.{Entry}
+use Rattle.laws.proofs.Down.{down-ext}
 use Rattle.trees.specs.Result.{Result}
 use Rattle.kept.specs.declared.table.Table.{Table}
 use Rattle.laws.specs.Limits.{rowCap, wordValues}
@@ -64,10 +63,7 @@ stored-other t i j r n = λ k. record {
 }
 
 pub stored-entries : (t : Table) (i : ℕ) (r : Tally) (n : ℕ) → n ≤ i → entriesOf (stored t i r) n ≡ entriesOf t n
-stored-entries t i r zero h = refl
-stored-entries t i r (suc n) h =
-    ap₂ (λ (e : Entry Result) (l : List (Entry Result)). e ∷ l) (stored-other t i n r (λ e. omega arith))
-    (stored-entries t i r n (omega arith))
+stored-entries t i r n h = down-ext (entryAt (stored t i r)) (entryAt t) n (λ j k. stored-other t i j r (λ e. omega arith))
 
 pub stored-sized : (t : Table) (i : ℕ) (r : Tally) → Sized t → Sized (stored t i r)
 stored-sized t i r s = record {
