@@ -3,7 +3,7 @@
 --     wrap a b                 a sum of 64 bits: past them from the start again
 --     rowDigest                the results of one row, added up
 --     Results, resultsOf t     the six arrays of results, and those of a table
---     Long                     each of them has room for all rows
+--     Full                     each of them has room for all rows
 --     digestTo k n, digest t   the digests of the first n rows, added up, and those of all 128 rows of a table
 --     rescoredTimes            a table after some rescorings to the same score, each handing on what it hands back
 -- Assumes nothing.
@@ -38,7 +38,7 @@ results n c m b l h = record { lengths = n; counts = c; marks = m; bests = b; lo
 abbrev pub resultsOf : Table → Results
 resultsOf t = results (t .lengths) (t .counts) (t .marks) (t .bests) (t .«members_low») (t .«members_high»)
 
-pub record Long (k : Results) : Type 0 where
+pub record Full (k : Results) : Type 0 where
   pub lengths : rowCap ≤ length (k .lengths)
   pub counts : rowCap ≤ length (k .counts)
   pub marks : rowCap ≤ length (k .marks)

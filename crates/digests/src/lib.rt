@@ -10,7 +10,7 @@ ghost use mir.Syntax.{w64};
 ghost use mir.Val.{ofZ};
 ghost use Rattle.laws.specs.Limits.{narrow, rowCap};
 ghost use Rattle.table.specs.Build.{buildTable};
-ghost use Rattle.digests.specs.Digest.{rowDigest, results, Long, digestTo, digest, rescoredTimes};
+ghost use Rattle.digests.specs.Digest.{rowDigest, results, Full, digestTo, digest, rescoredTimes};
 
 // The last number of 64 bits, which stands for -1.
 const MINUS_ONE: u64 = 18446744073709551615;
@@ -47,7 +47,7 @@ fn digest_of<'a>(
     lows: &'a [u64],
     highs: &'a [u64],
 ) -> u64
-    requires { ⌜ Long (results (now lengths) (now counts) (now marks) (now bests) (now lows) (now highs)) ⌝ }
+    requires { ⌜ Full (results (now lengths) (now counts) (now marks) (now bests) (now lows) (now highs)) ⌝ }
     ensures { λ r. ⌜ r ≡ digestTo (results (now (lengths .entry)) (now (counts .entry)) (now (marks .entry))
         (now (bests .entry)) (now (lows .entry)) (now (highs .entry))) rowCap ⌝ }
 {

@@ -4,7 +4,7 @@
 --     taxon-written          a part of one taxon is its number
 --     Writing                at the head of the loop: what is written and what is left is the whole
 --     writing-begins         before the first child
---     taxon-lt, turn-member, turn-le, turn-falls, turn-lt, writing-goes-on     one turn, that writes one child
+--     Turn, turn, taxon-lt, writing-goes-on     one turn, that writes one child
 --     writing-ends           after the last child
 --     text-written           the whole text
 -- Assumes nothing.
@@ -77,6 +77,13 @@ pub record Writing (xs : List ℕ) (C : ℕ) (s₀ s : Text) (left : ℕ) : Type
   pub met : Left xs nests C left
   pub bytes : withBytes s (toWrite xs C left (partsIn xs nests C left)) ≡ withBytes s₀ (toWrite xs C C (childrenInOrder xs C))
 
+-- the child of one turn: it is a member, lies in what is left, and is a smaller number than the part
+pub record Turn (xs : List ℕ) (C left c : ℕ) : Type 0 where
+  pub member : Mem c xs
+  pub le : c ≤ left
+  pub falls : left - c < left
+  pub lt : c < C
+
 -- after the opening parenthesis
 pub writing-begins : {xs : List ℕ} {C : ℕ} (s₀ : Text) → Nests xs → Mem C xs → single C ≡ false → Writing xs C s₀ s₀ C
 writing-begins {xs} {C} s₀ N m e = record {
@@ -110,11 +117,8 @@ module _ {xs : List ℕ} {C : ℕ} {s₀ s : Text} {left : ℕ} (W : Writing xs 
         subst (λ (x : ℕ). partsIn xs N C left ≡ x ∷ partsIn xs N C (left - x)) (sym turn-is)
         (parts-more xs N C (W .member) (W .more) left (W .met) n)
 
-    pub turn-member : Mem c xs
-    turn-member = turn-child .member
-
     turn-nonzero : c ≢ 0
-    turn-nonzero = N .nonzero c turn-member
+    turn-nonzero = N .nonzero c (turn-child .member)
 
     turn-less : left - c ≢ C
     turn-less d = omega (arith, le-of-inside left C (W .met .within), turn-nonzero)
@@ -128,15 +132,16 @@ module _ {xs : List ℕ} {C : ℕ} {s₀ s : Text} {left : ℕ} (W : Writing xs 
         ap (toWrite xs C left) turn-parts
         ∙ ap (λ (l : List ℕ). commaBefore C left ++ (partBytes xs c ++ l)) (to-write-later xs C (left - c) rest turn-less)
 
-    pub turn-le : c ≤ left
-    turn-le = le-of-inside c left turn-inside
-
-    pub turn-falls : left - c < left
-    turn-falls = omega (arith, turn-le, turn-nonzero)
-
-    -- a child is a smaller number
-    pub turn-lt : c < C
-    turn-lt = let q = strict→ c C (turn-child .strictly) in omega (arith, le-of-inside c C (q .0), q .1)
+    pub turn : Turn xs C left c
+    turn =
+        let le = le-of-inside c left turn-inside in
+        let strictly = strict→ c C (turn-child .strictly) in
+        record {
+          member = turn-child .member;
+          le = le;
+          falls = omega (arith, turn-nonzero);
+          lt = omega (arith, le-of-inside c C (strictly .0), strictly .1);
+        }
 
     pub writing-goes-on : {s₁ s₂ : Text} → s₁ ≡ withBytes s (commaBefore C left) → s₂ ≡ withBytes s₁ (partBytes xs c)
         → Writing xs C s₀ s₂ (left - c)

@@ -30,6 +30,6 @@ pub record WidthFacts (W : Width) : Type 0 where
   pub whole : W .listBytes ≡ W .rows * W .recordBytes
   -- no row has more tuples of the other rows than a row length tells, whatever the degree bound
   pub tuples : (d n : ℕ) → d ≤ degreeHigh → n < W .rows → few n (d - 1) ≤ W .lengthMax
-  -- a taxon takes five bytes of a text at most, and ten of them only four
+  -- the longest text has five bytes for each taxon, one less for each of the ten that have one figure, and two less in all
   pub ten : 10 ≤ W .taxa
-  pub text : 5 * W .taxa ≤ W .textBytes + 12
+  pub text : W .textBytes + 12 ≡ 5 * W .taxa

@@ -1,2 +1,2 @@
--- a count of bytes at the start of a room, and of one whose start was lent and came back
+-- a count of bytes at the start of a room that was lent and came back
 mod Counted

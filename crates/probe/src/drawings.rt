@@ -1,18 +1,16 @@
-// The operations that draw into rooms. Each reads its case and writes the answer; false where the case isn't whole, and then it writes
-// nothing. What a `tell_` writes is the answer of an operation on what was read.
+// The operations that draw into rooms. Each is handed what its case starts with, reads the rest and writes the answer; false where the
+// rest isn't whole, and then it writes nothing. What a `tell_` writes is the answer of an operation on what was read.
 //     answer_tree      operation 6, the tree as a cluster list
 //     answer_text      operation 7, the tree as text
 //     answer_line      operation 8, the printed line
 //     answer_whole     operation 9, build, rescore, draw
-use crate::layout::read_table;
 use crate::layout::write_table;
 use crate::numbers::WORD_BYTES;
 use crate::numbers::word_at;
-use crate::stream::read_list;
 use crate::stream::read_part;
 use crate::stream::read_room;
-use crate::stream::write;
 use crate::stream::write_number;
+use crate::stream::write_room;
 use crate::stream::write_sent;
 use crate::tables::SCORE_BYTES;
 use crate::tables::scores_room;
@@ -20,7 +18,6 @@ use crate::tables::tell_build;
 use crate::tables::tell_rescores;
 use table::Table;
 ghost use mathlib.Core.Path.{_≡_};
-ghost use Prim.Native.Nat.{_*_, _≤_};
 ghost use lib.ListN.{length};
 
 // How many numbers a room can have.
@@ -54,11 +51,7 @@ fn tell_tree(t: Table, room: &mut [u32]) {
     write_words(room);
 }
 
-pub(crate) fn answer_tree() -> bool {
-    let given = read_table();
-    if !given.is_whole {
-        return false;
-    }
+pub(crate) fn answer_tree(t: Table) -> bool {
     let mut bytes = [0u8; 1024];
     let part = read_part(&mut bytes, WORD_BYTES);
     if !part.is_whole {
@@ -66,51 +59,39 @@ pub(crate) fn answer_tree() -> bool {
     }
     let n = part.count;
     let mut room = words_of(&bytes);
-    tell_tree(given.table, &mut room[..n]);
+    tell_tree(t, &mut room[..n]);
     true
 }
 
 fn tell_text(t: Table, room: &mut [u8]) {
     let answer = drawing::text(t, room);
-    write_sent(answer);
-    write(room);
+    write_room(answer, room);
 }
 
-pub(crate) fn answer_text() -> bool {
-    let given = read_table();
-    if !given.is_whole {
-        return false;
-    }
+pub(crate) fn answer_text(t: Table) -> bool {
     let room = read_room();
     if !room.is_whole {
         return false;
     }
     let end = room.end;
     let mut bytes = room.bytes;
-    tell_text(given.table, &mut bytes[..end]);
+    tell_text(t, &mut bytes[..end]);
     true
 }
 
 fn tell_line(list: &[u8], degree: u32, room: &mut [u8]) {
     let answer = report::line(list, degree, room);
-    write_sent(answer);
-    write(room);
+    write_room(answer, room);
 }
 
-pub(crate) fn answer_line() -> bool {
-    let mut list = io::buffer();
-    let listed = read_list(&mut list);
-    if !listed.is_whole {
-        return false;
-    }
+pub(crate) fn answer_line(list: &[u8], degree: u32) -> bool {
     let room = read_room();
     if !room.is_whole {
         return false;
     }
-    let end = listed.end;
-    let room_end = room.end;
+    let end = room.end;
     let mut bytes = room.bytes;
-    tell_line(&list[..end], listed.degree, &mut bytes[..room_end]);
+    tell_line(list, degree, &mut bytes[..end]);
     true
 }
 
@@ -122,26 +103,14 @@ fn tell_drawings(t: Table) {
     tell_text(t, &mut bytes);
 }
 
-fn tell_whole(list: &[u8], degree: u32, scores: &[u8], count: usize)
-    requires { ⌜ count * 13 ≤ length (now scores) ⌝ }
-{
-    let t = tell_rescores(tell_build(list, degree), scores, count);
-    write_table(t);
-    tell_drawings(t);
-}
-
-pub(crate) fn answer_whole() -> bool {
-    let mut list = io::buffer();
-    let listed = read_list(&mut list);
-    if !listed.is_whole {
-        return false;
-    }
+pub(crate) fn answer_whole(list: &[u8], degree: u32) -> bool {
     let mut scores = scores_room();
     let part = read_part(&mut scores, SCORE_BYTES);
     if !part.is_whole {
         return false;
     }
-    let end = listed.end;
-    tell_whole(&list[..end], listed.degree, &scores, part.count);
+    let t = tell_rescores(tell_build(list, degree), &scores, part.count);
+    write_table(t);
+    tell_drawings(t);
     true
 }

@@ -48,6 +48,7 @@ const LOWS_AT: usize = 4876;
 
 const HIGHS_AT: usize = 5900;
 
+// A column of the bytes, from where it starts: longs_at, weights_at, bests_at and bytes_at.
 fn longs_at(bytes: &[u8], at: usize) -> [u64; 128]
     requires { ⌜ at + 1024 ≤ length (now bytes) ⌝ }
 {
@@ -124,6 +125,7 @@ pub(crate) fn read_table() -> Given {
     }
 }
 
+// A column, written: write_longs, write_weights, write_bests and write_bytes.
 fn write_longs(column: [u64; 128]) {
     let mut bytes = [0u8; 1024];
     let mut i = 0;
@@ -163,6 +165,7 @@ fn write_bytes(column: [u8; 128]) {
     write(&column);
 }
 
+// The columns are named before they are written, since a field that is an array can't be passed on straight.
 pub(crate) fn write_table(t: Table) {
     let clusters = t.clusters;
     let weights = t.weights;

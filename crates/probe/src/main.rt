@@ -15,26 +15,57 @@ use drawings::answer_line;
 use drawings::answer_text;
 use drawings::answer_tree;
 use drawings::answer_whole;
+use layout::read_table;
 use records::answer_read;
 use records::answer_write;
 use stream::fill;
+use stream::read_list;
 use stream::write;
 use tables::answer_build;
 use tables::answer_fit;
 use tables::answer_rescore;
+
+// Answers a case of operations 4 to 7, which starts with a table.
+fn answer_table(operation: u8) -> bool {
+    let given = read_table();
+    if !given.is_whole {
+        return false;
+    }
+    match operation {
+        4 => answer_rescore(given.table),
+        5 => answer_fit(given.table),
+        6 => answer_tree(given.table),
+        _ => answer_text(given.table),
+    }
+}
+
+// Answers what follows the list.
+fn answer_listed(operation: u8, list: &[u8], degree: u32) -> bool {
+    match operation {
+        3 => answer_build(list, degree),
+        8 => answer_line(list, degree),
+        _ => answer_whole(list, degree),
+    }
+}
+
+// Answers a case of operations 3, 8 and 9, which starts with a degree bound and a list.
+fn answer_list(operation: u8) -> bool {
+    let mut list = io::buffer();
+    let listed = read_list(&mut list);
+    if !listed.is_whole {
+        return false;
+    }
+    let end = listed.end;
+    answer_listed(operation, &list[..end], listed.degree)
+}
 
 // Answers one case of the operation; false where the case isn't whole or the operation is unknown.
 fn answer_case(operation: u8) -> bool {
     match operation {
         1 => answer_read(),
         2 => answer_write(),
-        3 => answer_build(),
-        4 => answer_rescore(),
-        5 => answer_fit(),
-        6 => answer_tree(),
-        7 => answer_text(),
-        8 => answer_line(),
-        9 => answer_whole(),
+        3 | 8 | 9 => answer_list(operation),
+        4..=7 => answer_table(operation),
         _ => false,
     }
 }

@@ -105,10 +105,6 @@ pub(crate) fn bits_of(z: i64) -> u64 {
     size_of(z)
 }
 
-fn long(z: i32) -> i64 {
-    z as i64
-}
-
 pub(crate) fn wide_bits_of(z: i32) -> u64 {
-    bits_of(long(z))
+    bits_of(z as i64)
 }

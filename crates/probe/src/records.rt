@@ -10,8 +10,8 @@ use crate::numbers::word_at;
 use crate::stream::fill;
 use crate::stream::read_part;
 use crate::stream::read_room;
-use crate::stream::write;
 use crate::stream::write_number;
+use crate::stream::write_room;
 use crate::stream::write_sent;
 use cluster::Record;
 ghost use mathlib.Core.Path.{_≡_};
@@ -22,14 +22,17 @@ const WEIGHT_AT: usize = 4;
 
 const STATE_AT: usize = 8;
 
-fn tell_read(bytes: &[u8]) {
-    let reading = cluster::read_record(bytes);
-    let answer = reading.answer;
-    let r = reading.record;
-    write_sent(answer);
+fn write_fields(r: Record) {
     write_number(r.cluster as u64, WORD_BYTES);
     write_number(wide_bits_of(r.weight), WORD_BYTES);
     write_number(wide(r.state), 1);
+}
+
+fn tell_read(bytes: &[u8]) {
+    let reading = cluster::read_record(bytes);
+    let answer = reading.answer;
+    write_sent(answer);
+    write_fields(reading.record);
 }
 
 pub(crate) fn answer_read() -> bool {
@@ -55,8 +58,19 @@ fn fields_of(fields: &[u8]) -> Record
 
 fn tell_write(r: Record, room: &mut [u8]) {
     let answer = cluster::write_record(r, room);
-    write_sent(answer);
-    write(room);
+    write_room(answer, room);
+}
+
+// Answers what follows the fields.
+fn answer_fields(r: Record) -> bool {
+    let room = read_room();
+    if !room.is_whole {
+        return false;
+    }
+    let end = room.end;
+    let mut bytes = room.bytes;
+    tell_write(r, &mut bytes[..end]);
+    true
 }
 
 pub(crate) fn answer_write() -> bool {
@@ -64,12 +78,5 @@ pub(crate) fn answer_write() -> bool {
     if !fill(&mut fields) {
         return false;
     }
-    let room = read_room();
-    if !room.is_whole {
-        return false;
-    }
-    let end = room.end;
-    let mut bytes = room.bytes;
-    tell_write(fields_of(&fields), &mut bytes[..end]);
-    true
+    answer_fields(fields_of(&fields))
 }

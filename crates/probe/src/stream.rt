@@ -1,5 +1,5 @@
 // The stream's fields: filled from the standard input, and written to the standard output (docs/PROBE.md).
-//     fill            a room filled from the input; false where the input ends before
+//     fill            a room filled from the input, or not
 //     Part            how much came, and whether all did
 //     read_part       a count, then as many pieces of a size
 //     Listed          a degree bound, and how much of a list came
@@ -9,6 +9,7 @@
 //     write           bytes, written
 //     write_number    a number, written as some bytes
 //     write_sent      how an operation ended, written as SENT
+//     write_room      SENT and the bytes of a room, written
 use crate::numbers::LONG_BYTES;
 use crate::numbers::number_at;
 use crate::numbers::put_number;
@@ -133,6 +134,7 @@ fn position_of(refusal: Refusal) -> usize {
     }
 }
 
+// SENT by its numbers.
 fn write_numbers(number: u64, position: u64, told: u64) {
     write_number(number, 1);
     write_number(position, LONG_BYTES);
@@ -146,4 +148,10 @@ pub(crate) fn write_sent(answer: Answer) {
             write_numbers(number_of(refusal), position_of(refusal) as u64, 0)
         }
     }
+}
+
+// How an operation ended, and its room afterwards.
+pub(crate) fn write_room(answer: Answer, room: &[u8]) {
+    write_sent(answer);
+    write(room);
 }

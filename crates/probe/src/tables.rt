@@ -1,16 +1,15 @@
-// The operations on tables. Each reads its case and writes the answer; false where the case isn't whole, and then it writes nothing.
+// The operations on tables. Each is handed what its case starts with, reads the rest and writes the answer; false where the rest isn't
+// whole, and then it writes nothing.
 //     answer_build       operation 3, build a table
 //     answer_rescore     operation 4, rescore a table, time after time
 //     answer_fit         operation 5, is the table fit
 //     tell_build         writes the SENT of a build, and hands back the table
 //     scores_room        a room for as many rescorings as a case can have
 //     tell_rescores      writes the SENT of one rescoring after another, and hands back the table
-use crate::layout::read_table;
 use crate::layout::write_table;
 use crate::numbers::LONG_BYTES;
 use crate::numbers::number_at;
 use crate::numbers::weight_at;
-use crate::stream::read_list;
 use crate::stream::read_part;
 use crate::stream::write_number;
 use crate::stream::write_sent;
@@ -34,14 +33,8 @@ pub(crate) fn tell_build(list: &[u8], degree: u32) -> Table {
     made.table
 }
 
-pub(crate) fn answer_build() -> bool {
-    let mut list = io::buffer();
-    let listed = read_list(&mut list);
-    if !listed.is_whole {
-        return false;
-    }
-    let end = listed.end;
-    write_table(tell_build(&list[..end], listed.degree));
+pub(crate) fn answer_build(list: &[u8], degree: u32) -> bool {
+    write_table(tell_build(list, degree));
     true
 }
 
@@ -91,25 +84,17 @@ pub(crate) fn tell_rescores(given: Table, scores: &[u8], count: usize) -> Table
     t
 }
 
-pub(crate) fn answer_rescore() -> bool {
-    let given = read_table();
-    if !given.is_whole {
-        return false;
-    }
+pub(crate) fn answer_rescore(t: Table) -> bool {
     let mut scores = scores_room();
     let part = read_part(&mut scores, SCORE_BYTES);
     if !part.is_whole {
         return false;
     }
-    write_table(tell_rescores(given.table, &scores, part.count));
+    write_table(tell_rescores(t, &scores, part.count));
     true
 }
 
-pub(crate) fn answer_fit() -> bool {
-    let given = read_table();
-    if !given.is_whole {
-        return false;
-    }
-    write_number(table::is_fit(given.table) as u64, 1);
+pub(crate) fn answer_fit(t: Table) -> bool {
+    write_number(table::is_fit(t) as u64, 1);
     true
 }

@@ -2,24 +2,24 @@
 -- definition of a build (`specs/Build.antt`) and in the crate `trees` (`proofs/Theorems.antt`). Which lists are taken, in the paper's
 -- words, and that the rows of a list are its records: the crate `lists` (`proofs/Theorems.antt`).
 --   demand 1, which lists are taken
---     build-accepts-iff                             a build succeeds exactly for the accepted lists and the degree bounds 3 to 5
---     build-refuses-iff                             and gives a refusal exactly when it is the first that applies
---     build-of-records                              the order of records plays no part
---     built-table                                   what a successful build gives
---     build-fit                                     the built table of an accepted list is fit
+--     build-accepts-iff                              a build succeeds exactly for the accepted lists and the degree bounds 3 to 5
+--     build-refuses-iff                              and gives a refusal exactly when it is the first that applies
+--     build-of-records                               the order of records plays no part
+--     built-table                                    what a successful build gives
+--     build-fit                                      the built table of an accepted list is fit
 --   demand 3, rescoring
---     rescore-accepts-iff (RescoredTables.antt)     a rescoring succeeds exactly for a fit table, a cluster with a row and a score
---     rescore-refuses-iff (RescoredTables.antt)     and gives a refusal exactly when it is the first that applies
---     rescored-fit (FitTables.antt)                 a fit table, rescored, is fit
---     rescore-keeps-others (RescoredTables.antt)    in any table, no row changes that doesn't contain the rescored cluster
---     built-rescores-iff                            in the built table of a list: exactly for the cluster of a record and a score
---     rescore-is-fresh-build                        and what is given is the build of the list with that record rewritten
---     rescore-all-is-build                          and so on, for any changes one after another, taken or not
---     changes-accepted (Changes.antt)               the list so changed is accepted
+--     rescore-accepts-iff (Changing/RescoredTables)  a rescoring succeeds exactly for a fit table, a cluster with a row and a score
+--     rescore-refuses-iff (Changing/RescoredTables)  and gives a refusal exactly when it is the first that applies
+--     rescored-fit (Fitting/FitTables)               a fit table, rescored, is fit
+--     rescore-keeps-others (Changing/RescoredTables) in any table, no row changes that doesn't contain the rescored cluster
+--     built-rescores-iff                             in the built table of a list: exactly for the cluster of a record and a score
+--     rescore-is-fresh-build                         and what is given is the build of the list with that record rewritten
+--     rescore-all-is-build                           and so on, for any changes one after another, taken or not
+--     changes-accepted (Changing/Changes)            the list so changed is accepted
 --   strict marking, one outcome for every input
---     build-only                                    `build`
---     rescore-only (RescoredTables.antt)            `rescore`
---     value-only (`cluster`, Theorems.antt)         `zero_table`, `is_fit`, `place_of`, `leaf_set`: the promise is an equation to a value
+--     build-only                                     `build`
+--     rescore-only (Changing/RescoredTables)         `rescore`
+--     value-only (`cluster`, Theorems.antt)          `zero_table`, `is_fit`, `place_of`, `leaf_set`: the promise is an equation to a value
 -- Definitions of changes and of rescoring once and again (`changedBytes`, `changeAll`, `rescoreAll`): `specs/Changes.antt`.
 -- Assumes nothing.
 use mathlib.Core.Path.{_≡_, refl, sym, ap, ap₂, _∙_, subst}

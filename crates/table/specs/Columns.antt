@@ -1,6 +1,6 @@
 -- The arrays that the private search of tuples reads, and the tuples that it sums.
 --     Columns, columnsOf t      the arrays, and those of a table
---     rowOf, fieldsOf           row i of the columns: its cluster and state, and its results (weight and row length play no part)
+--     columnRow, fieldsOf           row i of the columns: its cluster and state, and its results (weight and row length play no part)
 --     partAt, partsOf           row i as one part of a tuple, and the first n rows, the largest first; partTally is the code's form
 --     sumCovers left rest es    over the covers of `rest` by at most `left` of the scored entries: how many there are, and the sum of the
 --                               products of their counts and keys
@@ -36,8 +36,8 @@ columns c s n m b l h = record { clusters = c; states = s; counts = n; marks = m
 abbrev pub columnsOf : Table → Columns
 columnsOf t = columns (t .clusters) (t .states) (t .counts) (t .marks) (t .bests) (t .«members_low») (t .«members_high»)
 
-abbrev pub rowOf : Columns → ℕ → Row
-rowOf k i = record { cluster = getD (k .clusters) i 0; weight = pos 0; state = getD (k .states) i 0 }
+abbrev pub columnRow : Columns → ℕ → Row
+columnRow k i = record { cluster = getD (k .clusters) i 0; weight = pos 0; state = getD (k .states) i 0 }
 
 abbrev pub fieldsOf : Columns → ℕ → Result
 fieldsOf k i = record {
@@ -49,7 +49,7 @@ fieldsOf k i = record {
 }
 
 abbrev pub partAt : Columns → ℕ → Entry Res
-partAt k i = record { row = rowOf k i; val = (1, decoded (fieldsOf k i)) }
+partAt k i = record { row = columnRow k i; val = (1, decoded (fieldsOf k i)) }
 
 -- the code's own form of a part
 abbrev pub partTally : Columns → ℕ → Tally

@@ -16,7 +16,7 @@ use Rattle.laws.specs.Row.{Row, isScored}
 use Rattle.trees.specs.Result.{Result}
 use Rattle.kept.specs.Arrays.{Rising}
 use Rattle.kept.specs.Results.{isMatched}
-use Rattle.table.specs.Columns.{Columns, rowOf, fieldsOf}
+use Rattle.table.specs.Columns.{Columns, columnRow, fieldsOf}
 
 -- ---- rows in ascending order
 -- the first r of the n clusters are below v, and the others may be
@@ -59,7 +59,7 @@ pub record Sound (limit : ℕ) (k : Columns) (cs : List ℕ) (n : ℕ) : Type 0 
   pub full : (c : ℕ) → Mem c cs → c ≢ 0
   pub rising : Rising (k .clusters) n
   pub nonzero : (i : ℕ) → i < n → 0 < getD (k .clusters) i 0
-  pub good : (i : ℕ) → i < n → T (isScored (rowOf k i)) → GoodRow limit cs (rowOf k i) (fieldsOf k i)
+  pub good : (i : ℕ) → i < n → T (isScored (columnRow k i)) → GoodRow limit cs (columnRow k i) (fieldsOf k i)
 
 pub record Readable (limit : ℕ) (k : Columns) (n : ℕ) : Type 0 where
   pub cs : List ℕ

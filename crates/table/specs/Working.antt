@@ -12,7 +12,7 @@ use lib.Dec.{T}
 use lib.IntN.{ℤ, pos, natAbs}
 use lib.ListN.{getD, replicate}
 use Rattle.laws.specs.Cluster.{inside, single}
-use Rattle.laws.specs.Limits.{Width, weightMax, degreeLow, degreeHigh, rowCap, wordValues}
+use Rattle.laws.specs.Limits.{Width, weightMax, isDegree, rowCap, wordValues}
 use Rattle.laws.specs.State.{scored}
 use Rattle.cluster.specs.Rule.{keepsRules}
 use Rattle.trees.specs.Rescored.{workedOut, again}
@@ -67,8 +67,7 @@ pub record Ready (W : Width) (k : Columns) (starts : List ℕ) (z : ℤ) (i d : 
   pub begins : Starts (k .clusters) rows starts
   pub nonzero : 0 < getD (k .clusters) i 0
   pub small : getD (k .clusters) i 0 < wordValues
-  pub low : degreeLow ≤ d
-  pub high : d ≤ degreeHigh
+  pub degree : T (isDegree d)
   pub light : natAbs z ≤ weightMax
 
 -- ---- what working out a table may count on
@@ -77,8 +76,7 @@ pub record Workable (W : Width) (t : Table) (c : ℕ) : Type 0 where
   pub filled : 1 ≤ t .rows
   pub capped : t .rows ≤ W .rows
   pub sized : Sized t
-  pub low : degreeLow ≤ t .degree
-  pub high : t .degree ≤ degreeHigh
+  pub degree : T (isDegree (t .degree))
   pub rising : Rising (t .clusters) (t .rows)
   pub rules : (i : ℕ) → i < t .rows → T (keepsRules W (rowAt t i))
   pub fit : (i : ℕ) → i < t .rows → (T (inside c (rowAt t i .cluster)) → ⊥) → T (fitEntry W (clustersIn t) (entryAt t i))

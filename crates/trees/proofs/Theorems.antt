@@ -6,8 +6,8 @@
 --     put-facts                         changed rows are rows as before
 --     rescore-is-build                  demand 3: rescoring a built table is the build of the changed rows
 --     rescore-keeps-rows                and no row changes that doesn't contain the rescored cluster, in any table
--- The tie rule as a strict total order stands in `TieRule.antt`, the search in `SearchSum.antt` and `TuplesMet.antt`, the bounds in
--- `TupleBound.antt` and `TreeSize.antt`.
+-- The tie rule as a strict total order stands in `Ties/TieRule.antt`, the search in `Searching/SearchSum.antt` and
+-- `Searching/TuplesMet.antt`, the bounds in `Bounds/TupleBound.antt` and `Bounds/TreeSize.antt`.
 -- Assumes nothing.
 use mathlib.Core.Path.{_≡_, refl, sym, ap, _∙_, subst}
 use mathlib.Core.Logic.{_⊎_, inl, inr, _≢_, _↔_}

@@ -1,6 +1,6 @@
 -- `besttree::read_list` meets its contract: what came is within the room, whose bytes keep their number. The measure is the bytes that
 -- still have room. Assumes nothing.
-use mathlib.Core.Path.{_≡_, refl, sym, _∙_}
+use mathlib.Core.Path.{_≡_, refl, _∙_}
 use mathlib.Core.List.{List}
 use Prim.Native.Nat.{ℕ, _+_, _-_, _≤_}
 use native.Mathlib.Nat.{le-refl}
@@ -8,8 +8,7 @@ use native.Mathlib.Omega.{arith}
 use borrow.Author.Needs.{needs}
 use borrow.Rule.Slice.PartMut.{putMid, same-len-mid, mid-len}
 use lib.ListN.{length}
-use lib.Seq.{length-take-le}
-use Rattle.io.specs.Counts.{Counts}
+use Rattle.io.proofs.Counting.{counts}
 use Rattle.besttree.proofs.read_list.Statement.{statement}
 use Rattle.besttree.proofs.read_list.Tie as tie
 
@@ -40,9 +39,6 @@ came c =
     let lent = mid-len (at-loop .end) (length (at-loop .room)) (at-loop .room) (le-refl _) in
     omega (arith, c .read-some .ensures .0, c .read-some .kept .0, lent, at-loop .inv .0)
 
-counted : (n : ℕ) (l : List ℕ) → n ≤ length l → Counts n l
-counted n l h = (h, sym (length-take-le n l h))
-
 -- ---- needs
 
 same-length : tie.Need-same-length Inv-loop μ-loop
@@ -51,7 +47,7 @@ same-length c = let at-read = c .before .before .before in kept at-read ∙ turn
 returns : tie.Need-returns Inv-loop μ-loop
 returns c =
     let at-read = c .before .before .before in
-    counted (turn at-read .loop .end) (after at-read) (omega (arith, kept at-read, turn at-read .loop .inv .0))
+    counts (turn at-read .loop .end) (after at-read) (omega (arith, kept at-read, turn at-read .loop .inv .0))
 
 add-end : tie.Need-add-end Inv-loop μ-loop
 add-end c = let at-read = c .before .before .before in omega (arith, came at-read)
@@ -65,7 +61,7 @@ loop-again c =
     (omega (arith, kept at-read, came at-read), kept at-read ∙ turn at-read .loop .inv .1)
 
 returns-2 : tie.Need-returns-2 Inv-loop μ-loop
-returns-2 c = counted _ _ (c .before .loop .inv .0)
+returns-2 c = counts _ _ (c .before .loop .inv .0)
 
 pub read-list-spec : {M : Type 1} → statement M
 read-list-spec =

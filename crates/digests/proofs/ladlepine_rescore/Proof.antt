@@ -40,8 +40,10 @@ rescore-requires c κs = tt
 loop-again : tie.Need-loop-again Inv-loop μ-loop
 loop-again c =
     let at-loop = c .before .before .before in
-    let changed = c .before .rescore in
-    (omega arith, rescored-more _ _ _ _ (at-loop .loop .done) (at-loop .loop .t) (changed .result) (at-loop .loop .inv .1) (changed .ensures))
+    let changed = c .before .rescore in (
+      omega arith,
+      rescored-more _ _ _ _ (at-loop .loop .done) (at-loop .loop .t) (changed .result) (at-loop .loop .inv .1) (changed .ensures),
+    )
 
 returns : tie.Need-returns Inv-loop μ-loop
 returns c =

@@ -17,12 +17,12 @@ use native.Mathlib.Omega.{arith}
 use borrow.Author.Tests.{le-leb, lt-leb}
 use lib.Dec.{T, leb, leb→le, le→leb}
 use lib.ListN.{getD}
-use Rattle.laws.specs.Limits.{Width, degreeLow, degreeHigh, isDegree, rowCap}
+use Rattle.laws.specs.Limits.{Width, isDegree, rowCap}
 use Rattle.laws.specs.Lists.{Falling}
 use Rattle.laws.specs.Row.{Row}
 use Rattle.laws.specs.Widths.{WidthFacts}
 use Rattle.laws.proofs.Down.{mem-down, every→down, down→every, down-passed, down-stopped, falling-down, down-falling}
-use Rattle.laws.proofs.Tests.{T-and, and-T, T-false}
+use Rattle.laws.proofs.Tests.{T-and, and-T, T-true, T-false}
 use Rattle.cluster.specs.Rule.{Keeps, keepsRules}
 use Rattle.cluster.proofs.Laws.Rule.{rules→, →rules}
 use Rattle.trees.specs.Rows.{Entry}
@@ -94,8 +94,7 @@ module _ (W : Width) (cs : List ℕ) (t : Table) (n : ℕ) where
 
 -- ---- a table
 pub record FitTable (W : Width) (t : Table) : Type 0 where
-  pub low : degreeLow ≤ t .degree
-  pub high : t .degree ≤ degreeHigh
+  pub degree : T (isDegree (t .degree))
   pub some : 1 ≤ t .rows
   pub capped : t .rows ≤ W .rows
   pub rising : Ascends (t .clusters) (t .rows)
@@ -107,14 +106,12 @@ module _ (W : Width) (facts : WidthFacts W) (t : Table) where
   unfolding isFit
   isFit→ h =
       let a = T-and (isDegree (t .degree)) _ h in
-      let d = T-and (leb degreeLow (t .degree)) _ (a .0) in
       let b = T-and (leb 1 (t .rows)) _ (a .1) in
       let c = T-and (leb (t .rows) (W .rows)) _ (b .1) in
       let e = T-and (isRising (t .clusters) (t .rows)) _ (c .1) in
       let most = leb→le (t .rows) (W .rows) (c .0) in
       let right = right→ W (clustersIn t) t (t .rows) rowCap (e .1) in record {
-        low = leb→le _ _ (d .0);
-        high = leb→le _ _ (d .1);
+        degree = a .0;
         some = leb→le _ _ (b .0);
         capped = most;
         rising = isRising→ (t .clusters) (t .rows) (e .0);
@@ -129,7 +126,7 @@ module _ (W : Width) (t : Table) where
   pub →isFit : FitTable W t → T (isFit W t)
   unfolding isFit
   →isFit f =
-      and-T (isDegree (t .degree)) _ (and-T (leb degreeLow (t .degree)) _ (le→leb _ _ (f .low)) (le→leb _ _ (f .high)))
+      and-T (isDegree (t .degree)) _ (f .degree)
       (and-T (leb 1 (t .rows)) _ (le→leb _ _ (f .some))
       (and-T (leb (t .rows) (W .rows)) _ (le→leb _ _ (f .capped))
       (and-T (isRising (t .clusters) (t .rows)) _ (→isRising (t .clusters) (t .rows) (f .rising))
@@ -140,12 +137,11 @@ module _ (W : Width) (t : Table) where
       go i l (no h) = rw (lt-leb (t .rows) i (omega arith)) (f .fit i (omega arith))
 
   -- where degree bound, number and clusters are right, the rows tell
-  pub fit-rows : degreeLow ≤ t .degree → t .degree ≤ degreeHigh → 1 ≤ t .rows → t .rows ≤ W .rows
-      → isRising (t .clusters) (t .rows) ≡ true
+  pub fit-rows : T (isDegree (t .degree)) → 1 ≤ t .rows → t .rows ≤ W .rows → isRising (t .clusters) (t .rows) ≡ true
       → isFit W t ≡ hasRightRows W (clustersDown (t .clusters) (t .rows)) t (t .rows) rowCap
   unfolding isFit
-  fit-rows low high some capped rising =
-      rw (le-leb _ _ low, le-leb _ _ high, le-leb _ _ some, le-leb _ _ capped, rising, clusters-are t (t .rows))
+  fit-rows degree some capped rising =
+      rw (T-true (isDegree (t .degree)) degree, le-leb _ _ some, le-leb _ _ capped, rising, clusters-are t (t .rows))
 
   -- ---- by the entries of the rows
   pub fit-falls : FitTable W t → Falling (clustersIn t)

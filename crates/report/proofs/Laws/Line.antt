@@ -22,7 +22,7 @@ use mir.Val.{SFits, toZ, ofZ}
 use Rattle.laws.specs.Limits.{narrow, degreeHigh, isDegree}
 use Rattle.laws.proofs.Integers.{mag-le-abs}
 use Rattle.laws.proofs.Tests.{T-of-not}
-use Rattle.laws.proofs.Width.{narrow-facts}
+use Rattle.laws.proofs.Width.{narrow-facts, degree-range}
 use Rattle.cluster.specs.declared.refusal.Answer.{Answer}
 use Rattle.cluster.specs.declared.refusal.Answer.the-variants.{Done, Refused}
 use Rattle.cluster.specs.declared.refusal.Refusal.{Refusal}
@@ -43,7 +43,7 @@ use Rattle.kept.specs.View.{rowAt, resultAt, entryAt, clustersIn, tableOf, zero
 use Rattle.kept.specs.Rows.{leafSet}
 use Rattle.kept.proofs.Laws.Fit.{FitRow, isFit→, fit→}
 use Rattle.table.specs.Build.{buildReasons, buildTable}
-use Rattle.table.proofs.Laws.Build.{build-of, degree-range}
+use Rattle.table.proofs.Laws.Build.{build-of}
 use Rattle.members.specs.Draw.{leafRow, membersOf, drawReasons}
 use Rattle.members.specs.Drawable.{Drawable}
 use Rattle.members.proofs.Drawn.{drawable}

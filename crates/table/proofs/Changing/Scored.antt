@@ -170,8 +170,7 @@ module _ (W : Width) (facts : WidthFacts W) (t : Table) (c : ℕ) (z : ℤ) (s :
     filled = known .some;
     capped = known .capped;
     sized = score-sized;
-    low = known .low;
-    high = known .high;
+    degree = known .degree;
     rising = record { long = omega (arith, sized .clusters, known .capped, facts .rows); up = known .rising };
     rules = score-rules k;
     fit = score-fit;

@@ -17,7 +17,7 @@ use lib.Dec.{T, eqb}
 use lib.IntN.{ℤ}
 use lib.ListN.{length, length-map}
 use Rattle.laws.specs.Cluster.{inside}
-use Rattle.laws.specs.Limits.{Width, degreeLow, degreeHigh}
+use Rattle.laws.specs.Limits.{Width, isDegree}
 use Rattle.laws.specs.Lists.{Falling}
 use Rattle.laws.specs.Row.{Row}
 use Rattle.laws.specs.Widths.{WidthFacts}
@@ -39,13 +39,13 @@ use Rattle.table.proofs.Fitting.AgainFit.{Listed, again-fit}
 use Rattle.kept.proofs.Laws.Fit.{fit-rules, isFit→, →isFit, fit-falls, fit-each, entries-rising}
 use Rattle.kept.proofs.Laws.Blank.{blank→empty}
 use Rattle.kept.proofs.Laws.View.{entries-table, table-past}
-use Rattle.table.proofs.Laws.Build.{degree-range, Buildable, unworkedRow, unworked-clusters, again-built}
+use Rattle.laws.proofs.Width.{degree-range}
+use Rattle.table.proofs.Laws.Build.{Buildable, unworkedRow, unworked-clusters, again-built}
 
 -- ---- rows that may be made a table of
 
 pub record InTable (W : Width) (d : ℕ) (es : List (Entry Result)) (P : Entry Result → Type 0) : Type 0 where
-  pub low : degreeLow ≤ d
-  pub high : d ≤ degreeHigh
+  pub degree : T (isDegree d)
   pub filled : 1 ≤ length es
   pub capped : length es ≤ W .rows
   pub falls : Falling (map cl es)
@@ -61,8 +61,7 @@ Rows W d es = InTable W d es (λ (e : Entry Result). T (keepsRules W (e .row)))
 carried : (W : Width) (d : ℕ) (es xs : List (Entry Result)) (P Q : Entry Result → Type 0) → map cl xs ≡ map cl es → InTable W d es P
     → ((x : Entry Result) → Mem x xs → Q x) → InTable W d xs Q
 carried W d es xs P Q same k f = record {
-  low = k .low;
-  high = k .high;
+  degree = k .degree;
   filled = omega (arith, count, k .filled);
   capped = omega (arith, count, k .capped);
   falls = rw same (k .falls);
@@ -76,8 +75,7 @@ carried W d es xs P Q same k f = record {
 
 pub table-fit : (W : Width) (d : ℕ) (es : List (Entry Result)) → FitRows W d es → T (isFit W (tableOf d es))
 table-fit W d es f = →isFit W t (record {
-  low = f .low;
-  high = f .high;
+  degree = f .degree;
   some = f .filled;
   capped = f .capped;
   rising = entries-rising t (rw (entries-table d es) (f .falls));
@@ -109,7 +107,7 @@ module _ (W : Width) (facts : WidthFacts W) (d c : ℕ) (es : List (Entry Result
       each : (e : Entry Result) → Mem e (again F c es) → T (fitEntry W (map cl es) e)
       each =
           again-fit W (facts .counts) d c (map cl es) (k .falls) (nonzero-rows W d es k) es listed
-          (facts .tuples d (length es - 1) (k .high) (omega (arith, k .filled, k .capped))) f
+          (facts .tuples d (length es - 1) (degree-range (k .degree) .1) (omega (arith, k .filled, k .capped))) f
 
   pub again-table-fit : ((e : Entry Result) → Mem e es → (T (inside c (cl e)) → ⊥) → T (fitEntry W (map cl es) e))
       → T (isFit W (tableOf d (again F c es)))
@@ -163,8 +161,7 @@ fit-rows W facts t h =
     let f = isFit→ W facts t h in
     let n = down-length (entryAt t) (t .rows) in
     record {
-      low = f .low;
-      high = f .high;
+      degree = f .degree;
       filled = omega (arith, n, f .some);
       capped = omega (arith, n, f .capped);
       falls = fit-falls W t f;
@@ -181,8 +178,7 @@ rescored-fit W facts t c z s h score =
 module _ (W : Width) (facts : WidthFacts W) (d : ℕ) (rs : List Row) (k : Buildable W d rs) where
   accepted-rows : Rows W d (map unworkedRow rs)
   accepted-rows = record {
-    low = degree-range (k .degree) .0;
-    high = degree-range (k .degree) .1;
+    degree = k .degree;
     filled = omega (arith, length-map rs unworkedRow, k .filled);
     capped = omega (arith, length-map rs unworkedRow, k .capped);
     falls = rw (unworked-clusters rs) (k .facts .falls);

@@ -1,6 +1,5 @@
 -- Building: what is given in each case, and that working out the rows of an accepted list is the build.
 --     build-of                what is given, by the first reason that applies
---     degree-range, degree-of     the degree bounds that are taken
 --     Buildable W d rs, buildable     what holds of the rows of an accepted list
 --     clusters-of-rows        the clusters of rows, beside any results
 --     unworkedRow, unworked-clusters     a row with no results
@@ -21,7 +20,7 @@ use lib.IntN.{pos}
 use lib.ListN.{length, length-map, replicate}
 use Rattle.laws.specs.Cluster.{inside}
 use Rattle.laws.specs.Column.{column}
-use Rattle.laws.specs.Limits.{Width, degreeLow, degreeHigh, isDegree, rowCap, wordValues}
+use Rattle.laws.specs.Limits.{Width, isDegree, rowCap, wordValues}
 use Rattle.laws.specs.Row.{Row}
 use Rattle.laws.specs.Widths.{WidthFacts}
 use Rattle.laws.proofs.Appended.{map-through}
@@ -64,12 +63,6 @@ pub build-of : (W : Width) (l : List ℕ) (d : ℕ) {f : Option Refusal} → fir
     → buildTable W l d ≡ ended f zeroTable 0 (tableOf d (builtTable W d (rowsOf W l)))
 unfolding buildTable
 build-of W l d e = ap (λ (f : Option Refusal). ended f zeroTable 0 (tableOf d (builtTable W d (rowsOf W l)))) e
-
-pub degree-range : {d : ℕ} → T (isDegree d) → (degreeLow ≤ d) × (d ≤ degreeHigh)
-degree-range {d} h = let q = T-and (leb degreeLow d) (leb d degreeHigh) h in (leb→le _ _ (q .0), leb→le _ _ (q .1))
-
-pub degree-of : {d : ℕ} → degreeLow ≤ d → d ≤ degreeHigh → T (isDegree d)
-degree-of {d} a b = and-T (leb degreeLow d) (leb d degreeHigh) (le→leb _ _ a) (le→leb _ _ b)
 
 -- ---- the rows of an accepted list
 
@@ -189,8 +182,7 @@ module _ {W : Width} (facts : WidthFacts W) {d : ℕ} {rs : List Row} (k : Build
     filled = omega (arith, count, k .filled);
     capped = omega (arith, count, k .capped);
     sized = table-sized d es room;
-    low = degree-range (k .degree) .0;
-    high = degree-range (k .degree) .1;
+    degree = k .degree;
     rising = rising;
     rules = λ i h. let q = at-row i h in subst (λ (e : Entry Result). T (keepsRules W (e .row))) (q .2) (k .rules (q .0) (q .1));
     fit = λ i h out. absurd (out (zero-inside (rowAt table i .cluster)));

@@ -30,7 +30,7 @@ use Rattle.kept.proofs.Laws.Clusters.{clusters-are}
 use Rattle.table.specs.Searched.{Starts, GoodRow, Sound}
 use Rattle.table.specs.Tally.{fieldsTally}
 use Rattle.table.specs.Working.{workedTally, Ready, Workable}
-use Rattle.table.specs.Columns.{columnsOf, rowOf, fieldsOf}
+use Rattle.table.specs.Columns.{columnsOf, columnRow, fieldsOf}
 use Rattle.table.proofs.Fitting.KeepsFit.{Over}
 use Rattle.table.proofs.Rows.Workable.{given-rules, cluster-word, weight-fits, given-full, given-falls}
 use Rattle.table.proofs.Rows.Workable.{again-fit-below, again-over-below}
@@ -91,7 +91,7 @@ module _ {W : Width} (facts : WidthFacts W) {given : Table} {c : ℕ} (w : Worka
     }
       where
         goodAt : ℕ → List ℕ → Type 0
-        goodAt j l = GoodRow (W .countMax) l (rowOf (columnsOf t) j) (fieldsOf (columnsOf t) j)
+        goodAt j l = GoodRow (W .countMax) l (columnRow (columnsOf t) j) (fieldsOf (columnsOf t) j)
 
         -- the rows passed are fit; the search reads neither their weights nor their lengths
         good : (j : ℕ) → j < i → goodAt j (clustersIn given)
@@ -120,8 +120,7 @@ module _ {W : Width} (facts : WidthFacts W) {given : Table} {c : ℕ} (w : Worka
       begins = clusters-same (λ (l : List ℕ). Starts l (given .rows) starts) s;
       nonzero = clusters-same (λ (l : List ℕ). 0 < getD l i 0) (cluster-pos W (rowAt given i) (w .rules i h));
       small = clusters-same (λ (l : List ℕ). getD l i 0 < wordValues) (cluster-word facts w i h);
-      low = w .low;
-      high = w .high;
+      degree = w .degree;
       light = subst (λ (l : List ℤ). natAbs (getD l i (pos 0)) ≤ weightMax) (sym (p .weights))
           (given-rules facts w i h .1 .score .in-range);
     }

@@ -23,6 +23,7 @@ use Rattle.laws.specs.Limits.{Width, wordValues}
 use Rattle.laws.specs.Lists.{Falling}
 use Rattle.laws.specs.Row.{Row}
 use Rattle.laws.specs.Widths.{WidthFacts, few}
+use Rattle.laws.proofs.Width.{degree-range}
 use Rattle.laws.proofs.Down.{down-length, mem-down, down-mem, down-falling}
 use Rattle.laws.proofs.Integers.{mag-le-abs}
 use Rattle.cluster.specs.Rule.{Keeps, keepsRules}
@@ -93,7 +94,7 @@ module _ {W : Width} (facts : WidthFacts W) {given : Table} {c : ℕ} (w : Worka
   again-fit-below i h =
       again-fit W (facts .counts) d c cs (given-falls (given .rows) (omega arith)) given-full (entriesOf given i) (given-listed i h)
       (subst (λ (n : ℕ). few (n - 1) (d - 1) ≤ W .lengthMax) (sym (down-length (entryAt given) i))
-      (facts .tuples d (i - 1) (w .high) (omega (arith, w .capped, w .filled)))) (given-others i h)
+      (facts .tuples d (i - 1) (degree-range (w .degree) .1) (omega (arith, w .capped, w .filled)))) (given-others i h)
 
   pub again-over-below : (i : ℕ) → i < given .rows
       → Over (W .countMax) (clustersIn given) (rowAt given i) (again rowFormula c (entriesOf given i))

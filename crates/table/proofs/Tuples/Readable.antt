@@ -29,7 +29,7 @@ use Rattle.trees.proofs.Searching.Search.{lookup, lookup-row, lookup-missing, s
 use Rattle.kept.proofs.Laws.Clusters.{rising-part}
 use Rattle.table.specs.Tally.{tallyOf, decoded}
 use Rattle.table.specs.Searched.{Below, Long, Sound, Readable}
-use Rattle.table.specs.Columns.{Columns, rowOf, fieldsOf, partAt, partTally, partsOf, sumKind, sumCovers}
+use Rattle.table.specs.Columns.{Columns, columnRow, fieldsOf, partAt, partTally, partsOf, sumKind, sumCovers}
 use Rattle.table.specs.Sums.{noTally}
 use Rattle.table.proofs.Tuples.Searched.{parts-descend, sumCovers-search}
 use Rattle.table.proofs.Tallies.Decoded.{decoded-keeps, fields-tally}
@@ -74,11 +74,11 @@ module _ {limit : ℕ} {k : Columns} {cs : List ℕ} {n : ℕ} (s : Sound limit 
   pub parts-fall : Descends (map cl (partsOf k n))
   parts-fall = parts-descend k n (s .rising .up) (s .nonzero)
 
-  pub part-keeps : (b i : ℕ) → i < n → getD (k .clusters) i 0 < b → T (isScored (rowOf k i)) → Part cs b (partAt k i)
+  pub part-keeps : (b i : ℕ) → i < n → getD (k .clusters) i 0 < b → T (isScored (columnRow k i)) → Part cs b (partAt k i)
   part-keeps b i h l t = record {
     one = refl;
     keeps =
-        decoded-keeps limit cs (rowOf k i) (fieldsOf k i) (s .good i h t) b (s .falls) (s .full) (λ e. omega (arith, s .nonzero i h)) l;
+        decoded-keeps limit cs (columnRow k i) (fieldsOf k i) (s .good i h t) b (s .falls) (s .full) (λ e. omega (arith, s .nonzero i h)) l;
   }
 
   pub parts-keep : (b : ℕ) → ((i : ℕ) → i < n → getD (k .clusters) i 0 < b)
@@ -87,9 +87,9 @@ module _ {limit : ℕ} {k : Columns} {cs : List ℕ} {n : ℕ} (s : Sound limit 
       let q = mem-down (partAt k) n e m in
       rw (q .2) (part-keeps b (q .0) (q .1) (top (q .0) (q .1)) (subst (λ (x : Entry Res). T (sc x)) (q .2) t))
 
-  pub part-is : LowWords k → (i : ℕ) → i < n → T (isScored (rowOf k i)) → partTally k i ≡ tallyOf limit (1, decoded (fieldsOf k i))
+  pub part-is : LowWords k → (i : ℕ) → i < n → T (isScored (columnRow k i)) → partTally k i ≡ tallyOf limit (1, decoded (fieldsOf k i))
   part-is w i h t =
-      fields-tally limit cs (rowOf k i) (fieldsOf k i) (s .good i h t) 1 (getD (k .lows) i 0) (getD (k .highs) i 0) (w i) refl
+      fields-tally limit cs (columnRow k i) (fieldsOf k i) (s .good i h t) 1 (getD (k .lows) i 0) (getD (k .highs) i 0) (w i) refl
 
   -- ---- the one cover by one row
 

@@ -1,5 +1,5 @@
 -- The row worked out by the paper's formulas from the fields beneath is the fields of the row worked out in true counts and keys.
---     markIn                  the mark of one cluster (passed on from `Marks.antt`)
+--     markIn                  the mark of one cluster (passed on from `Ties/Marks.antt`)
 --     lengthIf b n            n, or 0 where a row has no tuples
 --     trueResult d cs r t     the row length, and the count with the key of the first heaviest, in true counts
 --     AllCounted t            each true count of t is one or more, where there is a tree

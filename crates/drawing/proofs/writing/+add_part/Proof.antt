@@ -5,13 +5,14 @@ use Prim.Native.Nat.{ℕ, _<_}
 use native.Mathlib.Omega.{arith}
 use borrow.Fn.Kinds.{In}
 use borrow.Fn.PlainCycle.{Measures, is, falls, and}
+use denote.Ref.{now}
 use Rattle.cluster.proofs.is_single.Reads as is-single-reads
 use Rattle.cluster.proofs.lowest.Reads as lowest-reads
 use Rattle.texts.specs.Text.{withBytes}
 use Rattle.texts.proofs.add.Reads as add-reads
 use Rattle.texts.proofs.add_decimal.Reads as add-decimal-reads
 use Rattle.drawing.proofs.Written.{taxon-written, Writing, writing-begins, writing-goes-on, writing-ends}
-use Rattle.drawing.proofs.Written.{turn-member, turn-le, turn-falls, turn-lt, taxon-lt}
+use Rattle.drawing.proofs.Written.{Turn, turn, taxon-lt}
 use Rattle.drawing.proofs.writing.add_part.Reads as reads
 use Rattle.drawing.proofs.writing.add_part.Kinds as kinds
 use Rattle.drawing.proofs.writing.+add_part.Lts-add_part as lts
@@ -80,26 +81,12 @@ module _ (t : ℕ) where
     abbrev start : lts.Start called entered reads.Post Inv-loop μ-loop
     start = let at-loop = in-loop .before in at-loop .before .before .before .before .before .before
 
-    lt : c .child-with .result < start .args .part
-    lt = turn-lt (in-loop .before .loop .inv) (in-loop .loop-test .taken) (c .before .lowest2 .ensures) (c .child-with .ensures)
+    next : Turn (now (start .args .xs)) (start .args .part) (in-loop .before .loop .left) (c .child-with .result)
+    next = turn (in-loop .before .loop .inv) (in-loop .loop-test .taken) (c .before .lowest2 .ensures) (c .child-with .ensures)
 
   add-part-requires : lts.Need-add-part-requires called entered reads.Post Inv-loop μ-loop
   add-part-requires c κs =
-      let W = in-loop c .before .loop .inv in
-      let member = turn-member W (in-loop c .loop-test .taken) (c .before .lowest2 .ensures) (c .child-with .ensures) in
-      (omega (arith, start c .pre .0, lt c), (W .nests, member))
-
-  sub-left : lts.Need-sub-left called entered reads.Post Inv-loop μ-loop
-  sub-left c =
-      let child = c .before in
-      let at-loop = in-loop child in
-      turn-le (at-loop .before .loop .inv) (at-loop .loop-test .taken) (child .before .lowest2 .ensures) (child .child-with .ensures)
-
-  loop-less : lts.Need-loop-less called entered reads.Post Inv-loop μ-loop
-  loop-less c =
-      let child = c .before in
-      let at-loop = in-loop child in
-      turn-falls (at-loop .before .loop .inv) (at-loop .loop-test .taken) (child .before .lowest2 .ensures) (child .child-with .ensures)
+      (omega (arith, start c .pre .0, next c .lt), (in-loop c .before .loop .inv .nests, next c .member))
 
   loop-again : lts.Need-loop-again called entered reads.Post Inv-loop μ-loop
   loop-again c =
@@ -130,8 +117,8 @@ pub +add-part-spec : {M : Type 1} → statement M
     (λ c κs. tt)
     (child-with-requires t)
     (add-part-requires t)
-    (sub-left t)
-    (loop-less t)
+    (λ c. next t (c .before) .le)
+    (λ c. next t (c .before) .falls)
     (loop-again t)
     (λ c. refl)
     (λ c κs. tt)

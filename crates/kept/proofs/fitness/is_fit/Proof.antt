@@ -8,7 +8,7 @@ use native.Mathlib.Omega.{arith}
 use lib.Dec.{T}
 use Rattle.laws.specs.Limits.{narrow}
 use Rattle.laws.proofs.Tests.{true-T, passed, failed}
-use Rattle.laws.proofs.Width.{narrow-facts}
+use Rattle.laws.proofs.Width.{narrow-facts, degree-range, degree-of}
 use Rattle.kept.specs.Fit.{isRising}
 use Rattle.kept.proofs.Laws.Clusters.{isRising→, →isRising}
 use Rattle.kept.proofs.Laws.Fit.{FitTable, unfit, fit-rows}
@@ -29,12 +29,12 @@ ascend c = passed (c .before .is-rising .ensures) (c .if5 .left)
 returns : tie.Need-returns
 returns c =
     let t = c .before .args .t1 in
-    sym (unfit narrow narrow-facts t (λ (f : FitTable narrow t). omega (arith, f .low, c .if1 .taken)))
+    sym (unfit narrow narrow-facts t (λ (f : FitTable narrow t). omega (arith, degree-range {d = t .degree} (f .degree) .0, c .if1 .taken)))
 
 returns-2 : tie.Need-returns-2
 returns-2 c =
     let t = c .before .before .args .t1 in
-    sym (unfit narrow narrow-facts t (λ (f : FitTable narrow t). omega (arith, f .high, c .if2 .taken)))
+    sym (unfit narrow narrow-facts t (λ (f : FitTable narrow t). omega (arith, degree-range {d = t .degree} (f .degree) .1, c .if2 .taken)))
 
 returns-3 : tie.Need-returns-3
 returns-3 c =
@@ -66,7 +66,7 @@ returns-6 c =
     let t = start capped .args .t1 in
     let one : 1 ≤ t .rows = omega (arith, some .if3 .left) in
     c .has-right-rows .ensures
-    ∙ sym (fit-rows narrow t (high .before .if1 .left) (high .if2 .left) one (capped .if4 .left) (ascend (c .before)))
+    ∙ sym (fit-rows narrow t (degree-of (high .before .if1 .left) (high .if2 .left)) one (capped .if4 .left) (ascend (c .before)))
 
 pub is-fit-spec : {M : Type 1} → statement M
 is-fit-spec =

@@ -1,7 +1,7 @@
 -- `probe::drawings::answer_tree` is safe: the numbers that came, four bytes each, are within their room. Assumes nothing.
 use native.Mathlib.Omega.{arith}
 use borrow.Author.Needs.{needs}
-use Rattle.probe.proofs.Counted.{counts-of}
+use Rattle.io.proofs.Counting.{front}
 use Rattle.probe.proofs.drawings.answer_tree.Statement.{statement}
 use Rattle.probe.proofs.drawings.answer_tree.Tie as tie
 
@@ -9,14 +9,12 @@ slice-aggregate-tell-tree : tie.Need-slice-aggregate-tell-tree
 slice-aggregate-tell-tree c =
     let at-words = c .before in
     let at-part = at-words .before .before .before .before .before in
-    counts-of (at-part .read-part .result .count) (at-words .words-of .result) (omega arith) .1
+    front (at-part .read-part .result .count) (at-words .words-of .result) (omega arith)
 
 pub answer-tree-spec : {M : Type 1} → statement M
 answer-tree-spec =
     tie.close
     (tie.spec
-    (λ c κs. search needs)
-    (λ c. search needs)
     (λ c. search needs)
     (λ c κs. search needs)
     (λ c. search needs)

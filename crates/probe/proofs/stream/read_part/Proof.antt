@@ -7,7 +7,8 @@ use native.Mathlib.Omega.{arith}
 use lib.ListN.{length}
 use denote.Ref.{now}
 use borrow.Author.Needs.{needs}
-use Rattle.probe.proofs.Counted.{counts-of, counts-back}
+use Rattle.io.proofs.Counting.{front}
+use Rattle.probe.proofs.Counted.{counts-back}
 use Rattle.probe.proofs.stream.read_part.Statement.{statement}
 use Rattle.probe.proofs.stream.read_part.Tie as tie
 
@@ -21,7 +22,7 @@ mul-end : tie.Need-mul-end
 mul-end c = let h = within c in omega (arith, at-start c .good .0 .0)
 
 slice-aggregate-fill : tie.Need-slice-aggregate-fill
-slice-aggregate-fill c = counts-of _ (now (at-start (c .before) .args .room)) (within (c .before)) .1
+slice-aggregate-fill c = front _ (now (at-start (c .before) .args .room)) (within (c .before))
 
 returns-2 : tie.Need-returns-2
 returns-2 c =

@@ -9,11 +9,11 @@ use borrow.Author.Needs.{needs}
 use borrow.Author.Tests.{lt-leb}
 use lib.Dec.{T, leb}
 use Rattle.laws.specs.Limits.{narrow, degreeLow, degreeHigh, isDegree}
-use Rattle.laws.proofs.Width.{narrow-facts}
+use Rattle.laws.proofs.Width.{narrow-facts, degree-of}
 use Rattle.lists.specs.Accepted.{Bytes}
 use Rattle.kept.specs.declared.table.Table.{Table}
 use Rattle.table.specs.Working.{againTable}
-use Rattle.table.proofs.Laws.Build.{degree-of, build-out, build-refused, build-workable, build-done}
+use Rattle.table.proofs.Laws.Build.{build-out, build-refused, build-workable, build-done}
 use Rattle.table.proofs.making.build.Statement.{statement}
 use Rattle.table.proofs.making.build.Tie as tie
 

@@ -1,13 +1,15 @@
 -- `table::working::worked` meets its contract: an unscored row and a one-taxon row end at once, and any other is the row over what the
 -- search of its tuples adds up. Assumes nothing.
 use mathlib.Core.Path.{_≡_, sym, ap, _∙_}
+use Prim.Native.Nat.{_≤_}
 use native.Mathlib.Omega.{arith}
 use borrow.Author.Needs.{needs}
 use lib.IntN.{ℤ}
 use mir.Facts.{toZ-ofZ}
 use mir.Syntax.{w32}
 use mir.Val.{SFits}
-use Rattle.laws.specs.Limits.{narrow}
+use Rattle.laws.specs.Limits.{narrow, degreeLow, degreeHigh}
+use Rattle.laws.proofs.Width.{degree-range}
 use Rattle.laws.proofs.Tests.{passed, failed}
 use Rattle.table.specs.Tally.{ownTally}
 use Rattle.table.specs.Columns.{Columns, columns}
@@ -59,11 +61,17 @@ returns-2 c =
     ∙ worked-single narrow (columnsAt s) (s .args .weight) (s .args .i) (s .args .degree)
     (passed (row .before .is-scored .ensures) (row .if1 .left)) (sym (single .is-single .ensures) ∙ c .before .if2 .taken)
 
+-- past both tests, the degree bound that was asked for is one that is taken
+asked : (c : tie.Else2) → let d = start (c .before .before .before .before .before) .args .degree in (degreeLow ≤ d) × (d ≤ degreeHigh)
+asked c = let s = start (c .before .before .before .before .before) in degree-range {d = s .args .degree} (s .pre .degree)
+
+sub-search : tie.Need-sub-search
+sub-search c = omega (arith, asked c .0)
+
 search-requires : tie.Need-search-requires
 search-requires c κs =
-    let row = c .before .before .before in
-    let s = start (row .before .before) in
-    (searchable (s .pre), (omega (arith, s .pre .low), omega (arith, s .pre .high)))
+    let s = start (c .before .before .before .before .before) in
+    (searchable (s .pre), (omega (arith, asked c .0), omega (arith, asked c .1)))
 
 returns-3 : tie.Need-returns-3
 returns-3 c =
@@ -89,7 +97,7 @@ worked-spec =
     (λ c κs. search needs)
     (λ c κs. search needs)
     returns-2
-    (λ c. search needs)
+    sub-search
     search-requires
     (λ c κs. search needs)
     (λ c κs. under-fits (start (scored-row c .before .before) .pre) (own-is c) (c .before .search .ensures))
