@@ -103,8 +103,8 @@ module _ (W : Width) (l : List ℕ) (d : ℕ) where
       rw (built-table degree a) (built-fit W facts d (rowsOf W l) (buildable facts degree byte a))
 
 -- the order of records plays no part
-pub build-of-records : (W : Width) (l m : List ℕ) (d : ℕ) → T (isDegree d) → Accepted W l → Accepted W m → RecordsAmong W l m → RecordsAmong W m l
-    → buildTable W l d ≡ buildTable W m d
+pub build-of-records : (W : Width) (l m : List ℕ) (d : ℕ) → T (isDegree d) → Accepted W l → Accepted W m
+    → RecordsAmong W l m → RecordsAmong W m l → buildTable W l d ≡ buildTable W m d
 build-of-records W l m d degree a b there back =
     build-done W l d degree a
     ∙ ap (λ (rs : List Row). outcomeOf (Done 0) (tableOf d (builtTable W d rs))) (rows-of-records W l m a b there back)

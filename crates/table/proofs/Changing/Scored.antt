@@ -139,10 +139,6 @@ module _ (W : Width) (facts : WidthFacts W) (t : Table) (c : ℕ) (z : ℤ) (s :
       ap₂ (λ (cs : List ℕ) (es : List (Entry Result)). tableOf (t .degree) (again (workedOut W (t .degree) cs) c es))
       score-clusters (score-entries (t .rows) (omega arith))
 
-  -- as the code has it: the weight through its bits
-  pub score-done : (w : ℤ) → w ≡ z → (u : Table) → u ≡ againTable W (withScore t i w s) c → u ≡ newTable W t c z s
-  score-done w e u q = q ∙ ap (λ (v : ℤ). againTable W (withScore t i v s) c) e ∙ score-again
-
   score-sized : Sized new
   score-sized = record {
     clusters = sized .clusters;
@@ -169,8 +165,8 @@ module _ (W : Width) (facts : WidthFacts W) (t : Table) (c : ℕ) (z : ℤ) (s :
       subst (λ (cs : List ℕ). T (fitEntry W cs (entryAt new j))) (sym score-clusters)
       (subst (λ (e : Entry Result). T (fitEntry W (clustersIn t) e)) (sym (score-other t i z s j other)) (known .fit j h))
 
-  pub score-workable : T (isScore z s) → ((j : ℕ) → j < t .rows → getD (t .«members_low») j 0 < wordValues) → Workable W new c
-  score-workable k words = record {
+  new-workable : T (isScore z s) → ((j : ℕ) → j < t .rows → getD (t .«members_low») j 0 < wordValues) → Workable W new c
+  new-workable k words = record {
     filled = known .some;
     capped = known .capped;
     sized = score-sized;
@@ -182,3 +178,11 @@ module _ (W : Width) (facts : WidthFacts W) (t : Table) (c : ℕ) (z : ℤ) (s :
     blank = λ j l m.
         subst (λ (e : Entry Result). T (isEmpty e)) (sym (score-other t i z s j (λ e. omega arith))) (known .blank j l m);
   }
+
+  -- as the code has it: the weight through its bits
+  pub score-workable : T (isScore z s) → ((j : ℕ) → j < t .rows → getD (t .«members_low») j 0 < wordValues) → {w : ℤ} → w ≡ z
+      → Workable W (withScore t i w s) c
+  score-workable k words e = subst (λ (w : ℤ). Workable W (withScore t i w s) c) (sym e) (new-workable k words)
+
+  pub score-done : {w : ℤ} → w ≡ z → {u : Table} → u ≡ againTable W (withScore t i w s) c → u ≡ newTable W t c z s
+  score-done e q = q ∙ ap (λ (v : ℤ). againTable W (withScore t i v s) c) e ∙ score-again

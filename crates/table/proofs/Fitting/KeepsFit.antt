@@ -207,7 +207,8 @@ module _ (W : Width) (one-limit : 1 ≤ W .countMax) (d : ℕ) (cs : List ℕ) (
             (length-le (isScored r && not (single (r .cluster)))) (no-length (isScored r) (single (r .cluster)))
             (no-result (isScored r) (single (r .cluster)));
         matched =
-            rooted-matched (W .countMax) one-limit cs (o .falls) r (o .listed) (trueResult d cs r rows .0) (trueResult d cs r rows .1) rooted;
+            rooted-matched (W .countMax) one-limit cs (o .falls) r (o .listed) (trueResult d cs r rows .0) (trueResult d cs r rows .1)
+            rooted;
       }))
     where
       count : ℕ

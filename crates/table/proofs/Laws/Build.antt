@@ -208,7 +208,8 @@ module _ (W : Width) (l : List ℕ) (d : ℕ) where
 
       pub build-refused : {f : Refusal} → a ≡ Refused f → outcomeOf (Refused f) zeroTable ≡ buildTable W l d
       build-refused {f} e =
-          sym (build-of W l d (reasons-of (ended-refused (firstReason (listReasons W l)) (listed []) 0 (listed (rowsOf W l)) f s (ends e) .0)))
+          let first = ended-refused (firstReason (listReasons W l)) (listed []) 0 (listed (rowsOf W l)) f s (ends e) .0 in
+          sym (build-of W l d (reasons-of first))
 
       module _ (facts : WidthFacts W) (byte : Bytes l) {m : ℕ} (e : a ≡ Done m) where
         told : (firstReason (listReasons W l) ≡ none) × (s ≡ listed (rowsOf W l))

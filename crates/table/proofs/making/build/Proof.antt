@@ -2,6 +2,7 @@
 -- Assumes nothing.
 use mathlib.Core.Path.{_≡_, ap, _∙_}
 use mathlib.Core.Bool.{Bool, false, _&&_, and-false}
+use native.Mathlib.Omega.{arith}
 use denote.Ref.{now}
 use mir.Facts.{fits-lt-pow}
 use borrow.Author.Needs.{needs}
@@ -18,7 +19,7 @@ use Rattle.table.proofs.making.build.Tie as tie
 
 -- the degree bound is taken
 degree : (c : tie.Else2) → T (isDegree (c .before .before .before .args .degree))
-degree c = degree-of (c .before .if1 .left) (c .if2 .left)
+degree c = degree-of {d = c .before .before .before .args .degree} (omega arith) (omega arith)
 
 -- what is read of a slice of bytes is bytes
 bytes : (c : tie.After-read-list) → Bytes (now (c .before .before .before .before .args .list))
@@ -28,14 +29,14 @@ returns : tie.Need-returns
 returns c =
     let s = c .before .before .before in
     let low : isDegree (s .args .degree) ≡ false =
-    ap (λ (b : Bool). b && leb (s .args .degree) degreeHigh) (lt-leb degreeLow (s .args .degree) (c .before .if1 .taken)) in
+    ap (λ (b : Bool). b && leb (s .args .degree) degreeHigh) (lt-leb degreeLow (s .args .degree) (omega (arith, c .before .if1 .taken))) in
     c .refused .ensures ∙ build-out narrow (now (s .args .list)) (s .args .degree) low
 
 returns-2 : tie.Need-returns-2
 returns-2 c =
     let s = c .before .before .before .before in
     let high : isDegree (s .args .degree) ≡ false =
-    ap (λ (b : Bool). leb degreeLow (s .args .degree) && b) (lt-leb (s .args .degree) degreeHigh (c .before .if2 .taken))
+    ap (λ (b : Bool). leb degreeLow (s .args .degree) && b) (lt-leb (s .args .degree) degreeHigh (omega (arith, c .before .if2 .taken)))
     ∙ and-false (leb degreeLow (s .args .degree)) in
     c .refused2 .ensures ∙ build-out narrow (now (s .args .list)) (s .args .degree) high
 

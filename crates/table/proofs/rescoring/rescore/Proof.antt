@@ -93,10 +93,9 @@ again-requires : tie.Need-again-requires
 again-requires c κs =
     let at = c .before .before in
     let s = start (at .before) in
-    rw (toZ-ofZ (s .fits .weight))
-    (score-workable narrow narrow-facts (s .args .given) (s .args .cluster) (s .args .weight) (s .args .state) (sized s)
+    score-workable narrow narrow-facts (s .args .given) (s .args .cluster) (s .args .weight) (s .args .state) (sized s)
     (true-T (fit (fits-at (at .before)))) (at .before .before .place-of .result) (at .if2 .left) (found at)
-    (true-T (passed (score (c .before)) (c .if3 .left))) (λ j h. words s j))
+    (true-T (passed (score (c .before)) (c .if3 .left))) (λ j h. words s j) (toZ-ofZ (s .fits .weight))
 
 returns-4 : tie.Need-returns-4
 returns-4 c =
@@ -106,7 +105,7 @@ returns-4 c =
     rescore-done narrow (s .args .given) (s .args .cluster) (s .args .weight) (s .args .state) f (listed at)
     (passed (score (c .before .before)) (c .before .if3 .left))
     (score-done narrow narrow-facts (s .args .given) (s .args .cluster) (s .args .weight) (s .args .state) (sized s) (true-T f)
-    (at .before .before .place-of .result) (at .if2 .left) (found at) _ (toZ-ofZ (s .fits .weight)) (c .again .result) (c .again .ensures))
+    (at .before .before .place-of .result) (at .if2 .left) (found at) (toZ-ofZ (s .fits .weight)) (c .again .ensures))
 
 pub rescore-spec : {M : Type 1} → statement M
 rescore-spec =
