@@ -15,8 +15,8 @@ use crate::numbers::number_at;
 use crate::numbers::put_number;
 use crate::numbers::word_at;
 use cluster::Answer;
-use cluster::Refusal;
 use cluster::number_of;
+use cluster::position_of;
 use libc::STDIN_FILENO;
 use libc::STDOUT_FILENO;
 ghost use mathlib.Core.Path.{_≡_};
@@ -123,15 +123,6 @@ pub(crate) fn write_number(n: u64, size: usize)
     let mut bytes = [0u8; 8];
     put_number(&mut bytes, 0, LONG_BYTES, n);
     write(&bytes[..size]);
-}
-
-// The position that a refusal holds, 0 where it has none.
-fn position_of(refusal: Refusal) -> usize {
-    match refusal {
-        Refusal::BadRecord(at) => at,
-        Refusal::Repeated(at) => at,
-        _ => 0,
-    }
 }
 
 // SENT by its numbers.
