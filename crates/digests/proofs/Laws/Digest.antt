@@ -36,7 +36,8 @@ module _ (c : ℕ) (z : ℤ) (s : ℕ) (t : Table) where
   unfolding rescoredTimes
   rescoredTimes-more n = rw (add-one n)
 
-  pub rescored-more : (n : ℕ) (u : Table) (r : Rescored) → u ≡ rescoredTimes n c z s t → outcomeOf (r .answer) (r .table) ≡ rescoreTable narrow u c z s
+  pub rescored-more : (n : ℕ) (u : Table) (r : Rescored) → u ≡ rescoredTimes n c z s t
+      → outcomeOf (r .answer) (r .table) ≡ rescoreTable narrow u c z s
       → r .table ≡ rescoredTimes (n + 1) c z s t
   rescored-more n u r e k =
       ap (λ (m : Outcome Table). m .given) (k ∙ ap (λ (x : Table). rescoreTable narrow x c z s) e) ∙ sym (rescoredTimes-more n)

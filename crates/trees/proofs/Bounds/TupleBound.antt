@@ -80,7 +80,8 @@ row-length-le d rs r nz m = go (isScored r && not (single (r .cluster))) (λ t. 
 
 pub row-length-most : (W : Width) → WidthFacts W → (d : ℕ) (rs : List Row) (r : Row) → ((x : Row) → Mem x rs → x .cluster ≢ 0) → Mem r rs
     → d ≤ degreeHigh → length rs ≤ W .rows → rowLength d rs r ≤ W .lengthMax
-row-length-most W facts d rs r nz m h k = le-trans (row-length-le d rs r nz m) (facts .tuples d (length rs - 1) h (omega (arith, some rs m)))
+row-length-most W facts d rs r nz m h k =
+    le-trans (row-length-le d rs r nz m) (facts .tuples d (length rs - 1) h (omega (arith, some rs m)))
   where
     some : (qs : List Row) → Mem r qs → 1 ≤ length qs
     some [] i = absurd (mem-nil i)

@@ -21,7 +21,8 @@ use Rattle.laws.proofs.Integers.{ltZ-add}
 use Rattle.trees.specs.Beneath.{Key, keyFirst}
 use Rattle.trees.specs.Solution.{top, joinK, countKind, Sol, plusSol, timesSol, solKind}
 use Rattle.trees.proofs.Formula.Kind.{Lawful}
-use Rattle.trees.proofs.Ties.KeyOrder.{Before, heavier, level, before→, →before, key-irrefl, key-trans, Which, ahead, same, behind, which}
+use Rattle.trees.proofs.Ties.KeyOrder.{Before, heavier, level, before→, →before, key-irrefl, key-trans}
+use Rattle.trees.proofs.Ties.KeyOrder.{Which, ahead, same, behind, which}
 
 -- ---- the first of two
 
