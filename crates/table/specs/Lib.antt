@@ -11,5 +11,6 @@ pub mod Sums
 -- what the private functions cite: the arrays that the search reads, and what it may count on
 pub mod Columns
 pub mod Searched
--- what the private functions cite: rows worked out
+-- what the private functions cite: columns as tables, and rows worked out
+pub mod Tables
 pub mod Working

@@ -1,7 +1,8 @@
 -- What the private search of tuples may count on.
 --     Past, Below, Starts       some of the clusters, and all of them, that are below a number; below each taxon
+--     WordsIn xs n              the first n of these are numbers of 64 bits
 --     GoodRow, Sound            a row whose results the search may add up; all the first n rows are such, and ascend
---     Long, Readable, Searchable     the columns reach far enough; what looking up, and searching, may count on
+--     Readable, Searchable      what looking up, and searching, may count on
 -- Assumes nothing.
 use mathlib.Core.Path.{_≡_}
 use mathlib.Core.Logic.{_⊎_, _≢_}
@@ -36,14 +37,8 @@ pub record Starts (cs : List ℕ) (n : ℕ) (starts : List ℕ) : Type 0 where
   pub each : (h : ℕ) → h ≤ 64 → Below cs n (2 ^ h) (getD starts h 0)
 
 -- ---- what looking up may count on
-pub record Long (k : Columns) (n : ℕ) : Type 0 where
-  pub clusters : n ≤ length (k .clusters)
-  pub states : n ≤ length (k .states)
-  pub counts : n ≤ length (k .counts)
-  pub marks : n ≤ length (k .marks)
-  pub bests : n ≤ length (k .bests)
-  pub lows : n ≤ length (k .lows)
-  pub highs : n ≤ length (k .highs)
+abbrev pub WordsIn : List ℕ → ℕ → Type 0
+WordsIn xs n = (i : ℕ) → i < n → getD xs i 0 < wordValues
 
 pub record GoodRow (limit : ℕ) (cs : List ℕ) (r : Row) (v : Result) : Type 0 where
   pub counted : v .count ≤ limit
@@ -63,8 +58,9 @@ pub record Sound (limit : ℕ) (k : Columns) (cs : List ℕ) (n : ℕ) : Type 0 
 
 pub record Readable (limit : ℕ) (k : Columns) (n : ℕ) : Type 0 where
   pub cs : List ℕ
-  pub long : Long k n
+  pub capped : n ≤ rowCap
   pub sound : Sound limit k cs n
+  pub words : WordsIn (k .lows) n
 
 -- and the first `end` rows lie below the taxon above the highest of `rest`, all rows below that highest taxon among them
 pub record Searchable (limit : ℕ) (k : Columns) (starts : List ℕ) (end rest : ℕ) : Type 0 where

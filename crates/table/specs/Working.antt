@@ -1,7 +1,6 @@
 -- What the private functions that work rows out cite: one row over the columns beneath it, and every row that contains a cluster.
 --     workedTally W k z i d     row i of the columns, with the weight z, from the rows beneath, as the code has it; that it is the paper's
 --                               row: `proofs/Rows/WorkedRow.antt`
---     unworkedTable             rows in arrays as a table with no results
 --     againTable W t c          the table with every row that contains c worked out again, by the paper's formulas
 --     Ready, Workable           what each may count on
 -- Assumes nothing.
@@ -9,8 +8,8 @@ use mathlib.Core.Bool.{cond}
 use mathlib.Core.List.{List}
 use Prim.Native.Nat.{ℕ, _-_, _≤_, _<_}
 use lib.Dec.{T}
-use lib.IntN.{ℤ, pos, natAbs}
-use lib.ListN.{getD, replicate}
+use lib.IntN.{ℤ, natAbs}
+use lib.ListN.{getD}
 use Rattle.laws.specs.Cluster.{inside, single}
 use Rattle.laws.specs.Limits.{Width, weightMax, isDegree, rowCap, wordValues}
 use Rattle.laws.specs.State.{scored}
@@ -23,7 +22,7 @@ use Rattle.kept.specs.Fit.{fitEntry}
 use Rattle.kept.specs.Arrays.{Rising, Sized}
 use Rattle.table.specs.declared.tally.Tally.{Tally}
 use Rattle.table.specs.Tally.{tallyOf, ownTally}
-use Rattle.table.specs.Searched.{Starts, Long, Sound}
+use Rattle.table.specs.Searched.{Starts, WordsIn, Sound}
 use Rattle.table.specs.Columns.{Columns, partsOf, sumCovers}
 use Rattle.table.specs.Sums.{noTally, underTally}
 
@@ -37,21 +36,6 @@ workedTally W k z i d =
     (cond (single (getD (k .clusters) i 0)) (ownTally 0 z i) (underTally (W .countMax) (ownTally 1 z i) (foundTally W k i d)))
     noTally
 
-abbrev pub unworkedTable : ℕ → List ℕ → List ℤ → List ℕ → ℕ → Table
-unworkedTable n clusters weights states d = record {
-  rows = n;
-  clusters = clusters;
-  weights = weights;
-  states = states;
-  lengths = replicate rowCap 0;
-  counts = replicate rowCap 0;
-  marks = replicate rowCap 0;
-  bests = replicate rowCap (pos 0);
-  «members_low» = replicate rowCap 0;
-  «members_high» = replicate rowCap 0;
-  degree = d;
-}
-
 abbrev pub againTable : Width → Table → ℕ → Table
 againTable W t c = tableOf (t .degree) (again (workedOut W (t .degree) (clustersIn t)) c (entriesOf t (t .rows)))
 
@@ -61,8 +45,8 @@ pub record Ready (W : Width) (k : Columns) (starts : List ℕ) (z : ℤ) (i d : 
   pub rows : ℕ
   pub place : i < rows
   pub capped : rows ≤ rowCap
-  pub long : Long k rows
   pub sound : Sound (W .countMax) k (clustersDown (k .clusters) rows) i
+  pub words : WordsIn (k .lows) rows
   pub rising : Rising (k .clusters) rows
   pub begins : Starts (k .clusters) rows starts
   pub nonzero : 0 < getD (k .clusters) i 0
@@ -80,5 +64,5 @@ pub record Workable (W : Width) (t : Table) (c : ℕ) : Type 0 where
   pub rising : Rising (t .clusters) (t .rows)
   pub rules : (i : ℕ) → i < t .rows → T (keepsRules W (rowAt t i))
   pub fit : (i : ℕ) → i < t .rows → (T (inside c (rowAt t i .cluster)) → ⊥) → T (fitEntry W (clustersIn t) (entryAt t i))
-  pub words : (i : ℕ) → i < t .rows → getD (t .«members_low») i 0 < wordValues
+  pub words : WordsIn (t .«members_low») (t .rows)
   pub blank : (i : ℕ) → t .rows ≤ i → i < rowCap → T (isEmpty (entryAt t i))

@@ -1,7 +1,7 @@
 // Building a table. Cites `specs/Build.antt`.
 //     Built        what a build gives
 //     refused      a refused build
-//     unworked     the rows of a list as a table with no results
+//     made         rows in arrays, worked out
 //     build        a list of records and a degree bound to a table
 use crate::working::again;
 use cluster::Answer;
@@ -13,11 +13,12 @@ use kept::zero_table;
 use lists::read_list;
 ghost use mathlib.Core.Path.{_≡_};
 ghost use Rattle.laws.specs.Limits.{narrow};
-ghost use Rattle.cluster.specs.declared.refusal.Answer.the-variants.{Refused};
+ghost use Rattle.cluster.specs.declared.refusal.Answer.the-variants.{Done, Refused};
 ghost use Rattle.cluster.specs.Outcome.{outcomeOf};
 ghost use Rattle.kept.specs.View.{zeroTable};
 ghost use Rattle.table.specs.Build.{buildTable};
-ghost use Rattle.table.specs.Working.{unworkedTable};
+ghost use Rattle.table.specs.Tables.{unworkedTable};
+ghost use Rattle.table.specs.Working.{againTable, Workable};
 
 // What a build gives: the table is all zero where the answer is a refusal.
 pub struct Built {
@@ -35,33 +36,57 @@ fn refused(refusal: Refusal) -> Built
     }
 }
 
-// The rows of a list as a table with no results.
-fn unworked<'a>(
+// The table of rows in arrays, worked out. The empty cluster lies inside every other, so every row is.
+fn made<'a>(
     clusters: &'a [u64; 128],
     weights: &'a [i32; 128],
     states: &'a [u8; 128],
     rows: usize,
     degree: u32,
-) -> Table
-    ensures { λ t. ⌜ t ≡ unworkedTable rows (now (clusters .entry)) (now (weights .entry)) (now (states .entry)) degree ⌝ }
+) -> Built
+    requires { ⌜ Workable narrow (unworkedTable rows (now clusters) (now weights) (now states) degree) 0 ⌝ }
+    ensures { λ b. ⌜ outcomeOf (b .answer) (b .table) ≡ outcomeOf (Done 0) (againTable narrow
+        (unworkedTable rows (now (clusters .entry)) (now (weights .entry)) (now (states .entry)) degree) 0) ⌝ }
 {
-    Table {
+    let mut lengths = [0; 128];
+    let mut counts = [0; 128];
+    let mut marks = [0; 128];
+    let mut bests = [0; 128];
+    let mut lows = [0; 128];
+    let mut highs = [0; 128];
+    again(
+        clusters,
+        weights,
+        states,
+        &mut lengths,
+        &mut counts,
+        &mut marks,
+        &mut bests,
+        &mut lows,
+        &mut highs,
         rows,
-        clusters: *clusters,
-        weights: *weights,
-        states: *states,
-        lengths: [0; 128],
-        counts: [0; 128],
-        marks: [0; 128],
-        bests: [0; 128],
-        members_low: [0; 128],
-        members_high: [0; 128],
         degree,
+        0,
+    );
+    Built {
+        answer: Answer::Done(0),
+        table: Table {
+            rows,
+            clusters: *clusters,
+            weights: *weights,
+            states: *states,
+            lengths,
+            counts,
+            marks,
+            bests,
+            members_low: lows,
+            members_high: highs,
+            degree,
+        },
     }
 }
 
-// The table of a list of records with the degree bound `degree`. Refused 4, 1, 3, 2, 5, 6 in that order. The empty cluster lies inside
-// every other, so every row is worked out.
+// The table of a list of records with the degree bound `degree`. Refused 4, 1, 3, 2, 5, 6 in that order.
 pub fn build(list: &[u8], degree: u32) -> Built
     ensures { λ b. ⌜ outcomeOf (b .answer) (b .table) ≡ buildTable narrow (now (list .entry)) degree ⌝ }
 {
@@ -77,17 +102,11 @@ pub fn build(list: &[u8], degree: u32) -> Built
         Answer::Refused(refusal) => return refused(refusal),
         Answer::Done(_) => {}
     }
-    Built {
-        answer: Answer::Done(0),
-        table: again(
-            unworked(
-                &listing.clusters,
-                &listing.weights,
-                &listing.states,
-                listing.rows,
-                degree,
-            ),
-            0,
-        ),
-    }
+    made(
+        &listing.clusters,
+        &listing.weights,
+        &listing.states,
+        listing.rows,
+        degree,
+    )
 }

@@ -15,15 +15,16 @@ use cluster::is_scored;
 ghost use mathlib.Core.Path.{_≡_};
 ghost use mathlib.Core.List.{[]};
 ghost use Prim.Native.Nat.{_≤_, _<_};
-ghost use lib.ListN.{length, replicate};
-ghost use Rattle.laws.specs.Limits.{degreeHigh};
+ghost use lib.ListN.{replicate};
+ghost use Rattle.laws.specs.Limits.{degreeHigh, rowCap};
 ghost use Rattle.kept.specs.Arrays.{Rising};
 ghost use Rattle.table.specs.Tally.{tallyOf};
-ghost use Rattle.table.specs.Searched.{Past, Below, Starts, Readable, Searchable};
+ghost use Rattle.table.specs.Searched.{Past, Below, Starts, WordsIn, Readable, Searchable};
 ghost use Rattle.table.specs.Columns.{columns, partTally, partsOf, sumCovers};
 
 // How many of the first `n` rows have a smaller cluster than `value`; the first `past` of them are known to.
-pub(crate) fn place_below(clusters: &[u64], past: usize, n: usize, value: u64) -> usize
+pub(crate) fn place_below(clusters: &[u64; 128], past: usize, n: usize, value: u64) -> usize
+    requires { ⌜ n ≤ rowCap ⌝ }
     requires { ⌜ Rising (now clusters) n ⌝ }
     requires { ⌜ Past (now clusters) n value past ⌝ }
     ensures { λ r. ⌜ Below (now (clusters .entry)) n value r ⌝ }
@@ -42,9 +43,11 @@ pub(crate) fn place_below(clusters: &[u64], past: usize, n: usize, value: u64) -
 }
 
 // For each taxon, how many of the first `n` rows lie below it, among them those below the taxon before; the last start stays `n`.
-pub(crate) fn put_starts(starts: &mut [usize; 65], clusters: &[u64], n: usize)
+pub(crate) fn put_starts(starts: &mut [usize; 65], clusters: &[u64; 128], n: usize)
     requires { ⌜ now starts ≡ replicate 65 n ⌝ }
+    requires { ⌜ n ≤ rowCap ⌝ }
     requires { ⌜ Rising (now clusters) n ⌝ }
+    requires { ⌜ WordsIn (now clusters) n ⌝ }
     ensures { λ _. ⌜ Starts (now (clusters .entry)) n (now (starts .exit)) ⌝ }
 {
     let mut past = 0;
@@ -58,18 +61,14 @@ pub(crate) fn put_starts(starts: &mut [usize; 65], clusters: &[u64], n: usize)
 
 // Row `i` as one part of a tuple.
 fn part<'a>(
-    counts: &'a [u64],
-    marks: &'a [u8],
-    bests: &'a [i64],
-    lows: &'a [u64],
-    highs: &'a [u64],
+    counts: &'a [u64; 128],
+    marks: &'a [u8; 128],
+    bests: &'a [i64; 128],
+    lows: &'a [u64; 128],
+    highs: &'a [u64; 128],
     i: usize,
 ) -> Tally
-    requires { ⌜ i < length (now counts) ⌝ }
-    requires { ⌜ i < length (now marks) ⌝ }
-    requires { ⌜ i < length (now bests) ⌝ }
-    requires { ⌜ i < length (now lows) ⌝ }
-    requires { ⌜ i < length (now highs) ⌝ }
+    requires { ⌜ i < rowCap ⌝ }
     ensures { λ r. ⌜ r ≡ partTally
         (columns [] [] (now (counts .entry)) (now (marks .entry)) (now (bests .entry)) (now (lows .entry)) (now (highs .entry))) i ⌝ }
 {
@@ -87,13 +86,13 @@ fn part<'a>(
 // Over the covers of `rest` by one of the first `end` rows: the row of `rest` itself, if it is there and scored. It isn't among the first
 // `start`, which are below.
 fn last<'a>(
-    clusters: &'a [u64],
-    states: &'a [u8],
-    counts: &'a [u64],
-    marks: &'a [u8],
-    bests: &'a [i64],
-    lows: &'a [u64],
-    highs: &'a [u64],
+    clusters: &'a [u64; 128],
+    states: &'a [u8; 128],
+    counts: &'a [u64; 128],
+    marks: &'a [u8; 128],
+    bests: &'a [i64; 128],
+    lows: &'a [u64; 128],
+    highs: &'a [u64; 128],
     start: usize,
     end: usize,
     rest: u64,
@@ -122,14 +121,14 @@ fn last<'a>(
 
 // Over the covers of `rest` by at most `left` of the first `end` rows, which are all below the taxon above `rest`'s highest.
 pub(crate) fn search<'a>(
-    clusters: &'a [u64],
-    states: &'a [u8],
-    counts: &'a [u64],
-    marks: &'a [u8],
-    bests: &'a [i64],
-    lows: &'a [u64],
-    highs: &'a [u64],
-    starts: &'a [usize],
+    clusters: &'a [u64; 128],
+    states: &'a [u8; 128],
+    counts: &'a [u64; 128],
+    marks: &'a [u8; 128],
+    bests: &'a [i64; 128],
+    lows: &'a [u64; 128],
+    highs: &'a [u64; 128],
+    starts: &'a [usize; 65],
     end: usize,
     rest: u64,
     left: u32,

@@ -11,7 +11,6 @@ use cluster::is_inside;
 use cluster::is_scored;
 use cluster::is_single;
 use kept::COUNT_MAX;
-use kept::Table;
 use kept::WORD_ROWS;
 ghost use mathlib.Core.Path.{_≡_};
 ghost use Prim.Native.Nat.{_<_};
@@ -19,6 +18,7 @@ ghost use Rattle.laws.specs.Limits.{narrow, rowCap};
 ghost use Rattle.table.specs.Tally.{ownTally, lowMark, highMark};
 ghost use Rattle.table.specs.Working.{Workable, workedTally, againTable, Ready};
 ghost use Rattle.table.specs.Columns.{columns};
+ghost use Rattle.table.specs.Tables.{tableIn};
 
 // The mark of row `i` in the low word.
 fn low_mark(i: usize) -> u64
@@ -59,14 +59,14 @@ fn own(weight: i32, i: usize, tuples: u64) -> Tally
 
 // The result of row `i`, from the rows beneath.
 fn worked<'a>(
-    clusters: &'a [u64],
-    states: &'a [u8],
-    counts: &'a [u64],
-    marks: &'a [u8],
-    bests: &'a [i64],
-    lows: &'a [u64],
-    highs: &'a [u64],
-    starts: &'a [usize],
+    clusters: &'a [u64; 128],
+    states: &'a [u8; 128],
+    counts: &'a [u64; 128],
+    marks: &'a [u8; 128],
+    bests: &'a [i64; 128],
+    lows: &'a [u64; 128],
+    highs: &'a [u64; 128],
+    starts: &'a [usize; 65],
     weight: i32,
     i: usize,
     degree: u32,
@@ -101,42 +101,57 @@ fn worked<'a>(
     under(own(weight, i, 1), found, COUNT_MAX)
 }
 
-// The table with every row that contains `cluster` worked out again, in ascending order; the others stay as they are.
-pub(crate) fn again(given: Table, cluster: u64) -> Table
-    requires { ⌜ Workable narrow given cluster ⌝ }
-    ensures { λ t. ⌜ t ≡ againTable narrow given cluster ⌝ }
+// The results of every row that contains `cluster` worked out again, in ascending order; those of the others stay as they are. The columns
+// are lent: a table by value would be copied in and out.
+pub(crate) fn again<'a>(
+    clusters: &'a [u64; 128],
+    weights: &'a [i32; 128],
+    states: &'a [u8; 128],
+    lengths: &mut [u64; 128],
+    counts: &mut [u64; 128],
+    marks: &mut [u8; 128],
+    bests: &mut [i64; 128],
+    lows: &mut [u64; 128],
+    highs: &mut [u64; 128],
+    n: usize,
+    degree: u32,
+    cluster: u64,
+)
+    requires { ⌜ Workable narrow (tableIn n degree (now clusters) (now weights) (now states)
+        (now lengths) (now counts) (now marks) (now bests) (now lows) (now highs)) cluster ⌝ }
+    ensures { λ _. ⌜ tableIn n degree (now (clusters .entry)) (now (weights .entry)) (now (states .entry))
+        (now (lengths .exit)) (now (counts .exit)) (now (marks .exit)) (now (bests .exit)) (now (lows .exit)) (now (highs .exit))
+        ≡ againTable narrow (tableIn n degree (now (clusters .entry)) (now (weights .entry)) (now (states .entry))
+        (now (lengths .entry)) (now (counts .entry)) (now (marks .entry)) (now (bests .entry)) (now (lows .entry)) (now (highs .entry)))
+        cluster ⌝ }
 {
-    let n = given.rows;
-    let degree = given.degree;
-    let mut t = given;
     let mut starts = [n; 65];
-    put_starts(&mut starts, &t.clusters, n);
+    put_starts(&mut starts, clusters, n);
     let mut i = 0;
     while i < n {
-        if is_inside(cluster, t.clusters[i]) {
-            let weight = t.weights[i];
+        if is_inside(cluster, clusters[i]) {
+            let weight = weights[i];
             let r = worked(
-                &t.clusters,
-                &t.states,
-                &t.counts,
-                &t.marks,
-                &t.bests,
-                &t.members_low,
-                &t.members_high,
+                clusters,
+                states,
+                counts,
+                marks,
+                bests,
+                lows,
+                highs,
                 &starts,
                 weight,
                 i,
                 degree,
             );
             let best = r.best;
-            t.lengths[i] = r.tuples;
-            t.counts[i] = r.count;
-            t.marks[i] = r.mark;
-            t.bests[i] = best;
-            t.members_low[i] = r.low;
-            t.members_high[i] = r.high;
+            lengths[i] = r.tuples;
+            counts[i] = r.count;
+            marks[i] = r.mark;
+            bests[i] = best;
+            lows[i] = r.low;
+            highs[i] = r.high;
         }
         i += 1;
     }
-    t
 }

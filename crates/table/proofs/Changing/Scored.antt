@@ -1,9 +1,8 @@
--- A new weight and state stored in the row of a cluster: the table that `rescore` hands to `again` (`src/rescoring.rt`).
+-- A new weight and state stored in the row of a cluster: the table that `scored` works out again (`src/rescoring.rt`).
 --     row-missing, row-listed, row-found     what the code's look-up tells
---     withScore t i z s       the table with the weight z and the state s in row i
 --     score-entries           its rows are those of the paper's `putScore`
 --     score-workable          its rows may be worked out again
---     score-again             and the table so worked out is the rescored one
+--     score-done              and the table so worked out is the rescored one
 -- Assumes nothing.
 use mathlib.Core.Path.{_≡_, sym, ap, ap₂, _∙_, subst}
 use mathlib.Core.Logic.{_≢_}
@@ -15,10 +14,10 @@ use native.Mathlib.Omega.{arith}
 use borrow.Author.Tests.{eq-eqb, ne-eqb, lt-ltb, le-ltb}
 use lib.Dec.{T}
 use lib.IntN.{ℤ, pos}
-use lib.ListN.{getD, set, length-set}
+use lib.ListN.{getD, length-set}
 use lib.Seq.{getD-set-same, getD-set-other}
 use Rattle.laws.specs.Cluster.{inside}
-use Rattle.laws.specs.Limits.{Width, rowCap, wordValues}
+use Rattle.laws.specs.Limits.{Width, rowCap}
 use Rattle.laws.specs.Widths.{WidthFacts}
 use Rattle.laws.proofs.Cluster.{inside-refl}
 use Rattle.laws.proofs.Down.{down-ext, down-map}
@@ -36,6 +35,8 @@ use Rattle.kept.proofs.Laws.Fit.{FitTable, isFit→, fit-rules}
 use Rattle.kept.proofs.Laws.Clusters.{clusters-are}
 use Rattle.kept.proofs.Laws.Rows.{hasRow-is, placeOf-at}
 use Rattle.table.specs.Rescore.{newTable}
+use Rattle.table.specs.Tables.{withScore}
+use Rattle.table.specs.Searched.{WordsIn}
 use Rattle.table.specs.Working.{againTable, Workable}
 use Rattle.table.proofs.Fitting.FitTables.{putEntry, put-rules}
 
@@ -53,21 +54,6 @@ module _ (t : Table) (capped : t .rows ≤ rowCap) (c i : ℕ) (e : i ≡ placeO
       ap (λ (n : ℕ). getD (t .clusters) n 0) e ∙ placeOf-at t capped c (subst (λ (n : ℕ). n < t .rows) e h)
 
 -- ---- its score
-
-abbrev pub withScore : Table → ℕ → ℤ → ℕ → Table
-withScore t i z s = record {
-  degree = t .degree;
-  rows = t .rows;
-  clusters = t .clusters;
-  weights = set (t .weights) i z;
-  states = set (t .states) i s;
-  lengths = t .lengths;
-  counts = t .counts;
-  marks = t .marks;
-  bests = t .bests;
-  «members_low» = t .«members_low»;
-  «members_high» = t .«members_high»;
-}
 
 module _ (t : Table) (i : ℕ) (z : ℤ) (s : ℕ) where
   score-same : Sized t → i < rowCap → entryAt (withScore t i z s) i
@@ -134,7 +120,7 @@ module _ (W : Width) (facts : WidthFacts W) (t : Table) (c : ℕ) (z : ℤ) (s :
   score-clusters : clustersIn new ≡ clustersIn t
   score-clusters = clusters-are new (t .rows) ∙ sym (clusters-are t (t .rows))
 
-  pub score-again : againTable W new c ≡ newTable W t c z s
+  score-again : againTable W new c ≡ newTable W t c z s
   score-again =
       ap₂ (λ (cs : List ℕ) (es : List (Entry Result)). tableOf (t .degree) (again (workedOut W (t .degree) cs) c es))
       score-clusters (score-entries (t .rows) (omega arith))
@@ -165,7 +151,7 @@ module _ (W : Width) (facts : WidthFacts W) (t : Table) (c : ℕ) (z : ℤ) (s :
       subst (λ (cs : List ℕ). T (fitEntry W cs (entryAt new j))) (sym score-clusters)
       (subst (λ (e : Entry Result). T (fitEntry W (clustersIn t) e)) (sym (score-other t i z s j other)) (known .fit j h))
 
-  new-workable : T (isScore z s) → ((j : ℕ) → j < t .rows → getD (t .«members_low») j 0 < wordValues) → Workable W new c
+  new-workable : T (isScore z s) → WordsIn (t .«members_low») (t .rows) → Workable W new c
   new-workable k words = record {
     filled = known .some;
     capped = known .capped;
@@ -180,9 +166,8 @@ module _ (W : Width) (facts : WidthFacts W) (t : Table) (c : ℕ) (z : ℤ) (s :
   }
 
   -- as the code has it: the weight through its bits
-  pub score-workable : T (isScore z s) → ((j : ℕ) → j < t .rows → getD (t .«members_low») j 0 < wordValues) → {w : ℤ} → w ≡ z
-      → Workable W (withScore t i w s) c
+  pub score-workable : T (isScore z s) → WordsIn (t .«members_low») (t .rows) → {w : ℤ} → w ≡ z → Workable W (withScore t i w s) c
   score-workable k words e = subst (λ (w : ℤ). Workable W (withScore t i w s) c) (sym e) (new-workable k words)
 
-  pub score-done : {w : ℤ} → w ≡ z → {u : Table} → u ≡ againTable W (withScore t i w s) c → u ≡ newTable W t c z s
-  score-done e q = q ∙ ap (λ (v : ℤ). againTable W (withScore t i v s) c) e ∙ score-again
+  pub score-done : {w : ℤ} → w ≡ z → againTable W (withScore t i w s) c ≡ newTable W t c z s
+  score-done e = ap (λ (v : ℤ). againTable W (withScore t i v s) c) e ∙ score-again

@@ -55,7 +55,8 @@ use Rattle.kept.proofs.Laws.Blank.{blank→empty}
 use Rattle.kept.proofs.Laws.Fit.{entries-rising}
 use Rattle.kept.proofs.Laws.View.{entries-table, table-sized, table-past}
 use Rattle.table.specs.Build.{buildReasons, buildTable}
-use Rattle.table.specs.Working.{unworkedTable, againTable, Workable}
+use Rattle.table.specs.Tables.{unworkedTable}
+use Rattle.table.specs.Working.{againTable, Workable}
 
 -- ---- what is given, by the first reason that applies
 
@@ -224,7 +225,7 @@ module _ (W : Width) (l : List ℕ) (d : ℕ) where
         pub build-workable : Workable W (unworkedOf s d) 0
         build-workable = subst (λ (t : Table). Workable W t 0) (sym table-is) (workable facts rows)
 
-        pub build-done : {t : Table} → t ≡ againTable W (unworkedOf s d) 0 → outcomeOf (Done 0) t ≡ buildTable W l d
-        build-done q =
-            ap (outcomeOf (Done 0)) (q ∙ ap (λ (t : Table). againTable W t 0) table-is ∙ again-is facts rows)
+        pub build-done : outcomeOf (Done 0) (againTable W (unworkedOf s d) 0) ≡ buildTable W l d
+        build-done =
+            ap (outcomeOf (Done 0)) (ap (λ (t : Table). againTable W t 0) table-is ∙ again-is facts rows)
             ∙ sym (build-of W l d (reasons-of (told .0)))

@@ -27,7 +27,7 @@ use Rattle.kept.specs.View.{rowAt, entryAt, entriesOf, clustersIn, clustersDown
 use Rattle.kept.specs.Arrays.{Rising, Sized}
 use Rattle.kept.proofs.Laws.Fit.{cluster-pos}
 use Rattle.kept.proofs.Laws.Clusters.{clusters-are}
-use Rattle.table.specs.Searched.{Starts, GoodRow, Sound}
+use Rattle.table.specs.Searched.{Starts, WordsIn, GoodRow, Sound}
 use Rattle.table.specs.Tally.{fieldsTally}
 use Rattle.table.specs.Working.{workedTally, Ready, Workable}
 use Rattle.table.specs.Columns.{columnsOf, columnRow, fieldsOf}
@@ -49,7 +49,7 @@ pub record Partly (W : Width) (given : Table) (c : ℕ) (t : Table) (i : ℕ) : 
   pub sized : Sized t
   pub done : entriesOf t i ≡ again (workedOut W (given .degree) (clustersIn given)) c (entriesOf given i)
   pub left : (j : ℕ) → i ≤ j → entryAt t j ≡ entryAt given j
-  pub words : (j : ℕ) → j < given .rows → getD (t .«members_low») j 0 < wordValues
+  pub words : WordsIn (t .«members_low») (given .rows)
 
 module _ {W : Width} (facts : WidthFacts W) {given : Table} {c : ℕ} (w : Workable W given c) where
   abbrev d : ℕ
@@ -106,16 +106,8 @@ module _ {W : Width} (facts : WidthFacts W) {given : Table} {c : ℕ} (w : Worka
       rows = given .rows;
       place = h;
       capped = room;
-      long = record {
-        clusters = omega (arith, p .sized .clusters, room);
-        states = omega (arith, p .sized .states, room);
-        counts = omega (arith, p .sized .counts, room);
-        marks = omega (arith, p .sized .marks, room);
-        bests = omega (arith, p .sized .bests, room);
-        lows = omega (arith, p .sized .lows, room);
-        highs = omega (arith, p .sized .highs, room);
-      };
       sound = ready-sound h;
+      words = p .words;
       rising = clusters-same (λ (l : List ℕ). Rising l (given .rows)) (w .rising);
       begins = clusters-same (λ (l : List ℕ). Starts l (given .rows) starts) s;
       nonzero = clusters-same (λ (l : List ℕ). 0 < getD l i 0) (cluster-pos W (rowAt given i) (w .rules i h));

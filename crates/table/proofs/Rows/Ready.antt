@@ -40,7 +40,7 @@ use Rattle.table.proofs.Tallies.CoverSums.{sumCovers-keeps}
 use Rattle.table.proofs.Tallies.Encoded.{Clear, tally-under}
 use Rattle.table.proofs.Tallies.Held.{Keeps, keeps-counted}
 use Rattle.table.proofs.Tallies.Overflow.{Safe, Words, words-fit, light-fits, setOf, membersOf, set-coded, words-safe, words-clear}
-use Rattle.table.proofs.Tuples.Readable.{long-fewer, parts-keep}
+use Rattle.table.proofs.Tuples.Readable.{parts-keep}
 use Rattle.table.proofs.Tuples.Searched.{below-le}
 
 module _ {W : Width} {k : Columns} {starts : List ℕ} {z : ℤ} {i d : ℕ} (R : Ready W k starts z i d) where
@@ -67,7 +67,7 @@ module _ {W : Width} {k : Columns} {starts : List ℕ} {z : ℤ} {i d : ℕ} (R 
 
   pub searchable : Searchable limit k starts i C
   searchable = record {
-    readable = record { cs = cs; long = long-fewer limit k i (R .rows) (omega (arith, R .place)) (R .long); sound = R .sound };
+    readable = record { cs = cs; capped = omega (arith, R .place, R .capped); sound = R .sound; words = λ j h. R .words j (omega (arith, R .place)) };
     rows = R .rows;
     within = omega (arith, R .place);
     capped = R .capped;

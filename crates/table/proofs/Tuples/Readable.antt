@@ -1,9 +1,8 @@
 -- Rows that may be read: as parts they fall, keep what sums keep, and the code's form of one is its tally. Looking a row up.
---     long-fewer, readable-fewer       fewer rows may be read too
+--     readable-fewer                   fewer rows may be read too
 --     parts-fall               the parts fall
 --     part-keeps, parts-keep   the scored ones keep what sums keep; b is above all of them
 --     part-is                  the code's form of a scored row is the tally of one tuple
---     LowWords                 the low words of marks are words
 --     missing-is, other-is, unscored-is, found-is     the one cover by one row: no row is as large, another one stands there, it is
 --                              unscored, or it is the cover
 -- Assumes nothing.
@@ -28,7 +27,7 @@ use Rattle.trees.specs.Solution.{Res}
 use Rattle.trees.proofs.Searching.Search.{lookup, lookup-row, lookup-missing, search-one}
 use Rattle.kept.proofs.Laws.Clusters.{rising-part}
 use Rattle.table.specs.Tally.{tallyOf, decoded}
-use Rattle.table.specs.Searched.{Below, Long, Sound, Readable}
+use Rattle.table.specs.Searched.{Below, WordsIn, Sound, Readable}
 use Rattle.table.specs.Columns.{Columns, columnRow, fieldsOf, partAt, partTally, partsOf, sumKind, sumCovers}
 use Rattle.table.specs.Sums.{noTally}
 use Rattle.table.proofs.Tuples.Searched.{parts-descend, sumCovers-search}
@@ -50,25 +49,10 @@ module _ (limit : ℕ) (k : Columns) (m n : ℕ) (h : m ≤ n) where
     good = λ i l. s .good i (omega arith);
   }
 
-  pub long-fewer : Long k n → Long k m
-  long-fewer l = record {
-    clusters = omega (arith, l .clusters);
-    states = omega (arith, l .states);
-    counts = omega (arith, l .counts);
-    marks = omega (arith, l .marks);
-    bests = omega (arith, l .bests);
-    lows = omega (arith, l .lows);
-    highs = omega (arith, l .highs);
-  }
-
   pub readable-fewer : Readable limit k n → Readable limit k m
-  readable-fewer r = record { cs = r .cs; long = long-fewer (r .long); sound = sound-fewer (r .cs) (r .sound) }
+  readable-fewer r = record { cs = r .cs; capped = omega (arith, r .capped); sound = sound-fewer (r .cs) (r .sound); words = λ i l. r .words i (omega arith) }
 
 -- ---- the rows as parts
-
--- the low words of marks are words
-abbrev pub LowWords : Columns → Type 0
-LowWords k = (i : ℕ) → getD (k .lows) i 0 < wordValues
 
 module _ {limit : ℕ} {k : Columns} {cs : List ℕ} {n : ℕ} (s : Sound limit k cs n) where
   pub parts-fall : Descends (map cl (partsOf k n))
@@ -87,9 +71,9 @@ module _ {limit : ℕ} {k : Columns} {cs : List ℕ} {n : ℕ} (s : Sound limit 
       let q = mem-down (partAt k) n e m in
       rw (q .2) (part-keeps b (q .0) (q .1) (top (q .0) (q .1)) (subst (λ (x : Entry Res). T (sc x)) (q .2) t))
 
-  pub part-is : LowWords k → (i : ℕ) → i < n → T (isScored (columnRow k i)) → partTally k i ≡ tallyOf limit (1, decoded (fieldsOf k i))
+  pub part-is : WordsIn (k .lows) n → (i : ℕ) → i < n → T (isScored (columnRow k i)) → partTally k i ≡ tallyOf limit (1, decoded (fieldsOf k i))
   part-is w i h t =
-      fields-tally limit cs (columnRow k i) (fieldsOf k i) (s .good i h t) 1 (getD (k .lows) i 0) (getD (k .highs) i 0) (w i) refl
+      fields-tally limit cs (columnRow k i) (fieldsOf k i) (s .good i h t) 1 (getD (k .lows) i 0) (getD (k .highs) i 0) (w i h) refl
 
   -- ---- the one cover by one row
 
@@ -129,7 +113,7 @@ module _ {limit : ℕ} {k : Columns} {cs : List ℕ} {n : ℕ} (s : Sound limit 
         unscored-is e f =
             ap (tallyOf limit) (sym (row-is e ∙ ap (λ (t : Bool). cond t (partAt k a .val) (sumKind .none)) f))
 
-        pub found-is : LowWords k → getD (k .clusters) a 0 ≡ R → scored (getD (k .states) a 0) ≡ true
+        pub found-is : WordsIn (k .lows) n → getD (k .clusters) a 0 ≡ R → scored (getD (k .states) a 0) ≡ true
             → partTally k a ≡ tallyOf limit (sumCovers 1 R (partsOf k n))
         found-is w e f =
             part-is w a h (true-T f)

@@ -41,7 +41,7 @@ use Rattle.table.proofs.Tallies.CoverSums.{sumCovers-keeps}
 use Rattle.table.proofs.Tallies.Encoded.{tally-under}
 use Rattle.table.proofs.Tallies.Held.{Keeps, keeps-counted, keeps-times, Part}
 use Rattle.table.proofs.Tallies.Overflow.{Safe, part-clear, part-safe}
-use Rattle.table.proofs.Tuples.Readable.{LowWords, readable-fewer, part-keeps, part-is}
+use Rattle.table.proofs.Tuples.Readable.{readable-fewer, part-keeps, part-is}
 use Rattle.table.proofs.Tuples.Searchable.{topOf, taxon-fits, searched-fall, rows-below, searched-keep}
 
 pub record Led (limit : ℕ) (k : Columns) (starts : List ℕ) (end R j : ℕ) : Type 0 where
@@ -50,7 +50,6 @@ pub record Led (limit : ℕ) (k : Columns) (starts : List ℕ) (end R j : ℕ) :
   pub reached : getD starts (highest R) 0 ≤ j
   pub within : inside (getD (k .clusters) j 0) R ≡ true
   pub scored : scored (getD (k .states) j 0) ≡ true
-  pub words : LowWords k
 
 -- row j adds g, of which the code has the tally t
 pub record Adds (limit : ℕ) (k : Columns) (end R left j : ℕ) (t : Tally) : Type 0 where
@@ -95,7 +94,7 @@ module _ {limit : ℕ} {k : Columns} {starts : List ℕ} {end R j : ℕ} (left :
   own = part-keeps (s .readable .sound) b j (h .place) (rows-below s j (h .place)) is-scored
 
   own-is : partTally k j ≡ tallyOf limit (e .val)
-  own-is = part-is (s .readable .sound) (h .words) j (h .place) is-scored
+  own-is = part-is (s .readable .sound) (s .readable .words) j (h .place) is-scored
 
   own-counted : Counted (e .val .1)
   own-counted = keeps-counted cs b 1 c (e .val .1) (own .keeps)

@@ -35,7 +35,7 @@ use Rattle.trees.proofs.Searching.Search.{search}
 use Rattle.trees.proofs.Searching.SearchSum.{search-is}
 use Rattle.kept.specs.Arrays.{Rising}
 use Rattle.kept.proofs.Laws.Marks.{shifted}
-use Rattle.table.specs.Searched.{Past, Below, Starts}
+use Rattle.table.specs.Searched.{Past, Below, Starts, WordsIn}
 use Rattle.table.specs.Columns.{Columns, partAt, partsOf, sumKind, sumCovers}
 
 -- ---- bisection
@@ -138,12 +138,12 @@ module _ {cs : List ℕ} {n : ℕ} where
         go h (yes e) l = rw (e, getD-set-same starts t r 0 (omega (arith, b .long))) below
         go h (no f) l = rw (getD-set-other starts t h r 0 f) (b .each h (omega arith))
 
-    pub starts-of-begun : 64 ≤ t → ((i : ℕ) → getD cs i 0 < 2 ^ 64) → Starts cs n starts
+    pub starts-of-begun : 64 ≤ t → WordsIn cs n → Starts cs n starts
     starts-of-begun k w = record { long = b .long; each = λ h l. go h (ℕ-discrete h 64) l }
       where
         go : (h : ℕ) → Dec (h ≡ 64) → h ≤ 64 → Below cs n (2 ^ h) (getD starts h 0)
         go h (yes e) l =
-            rw (e, b .last) (record { within = le-refl n; less = λ i j. w i; more = λ i j p. absurd (omega arith) })
+            rw (e, b .last) (record { within = le-refl n; less = w; more = λ i j p. absurd (omega arith) })
         go h (no f) l = b .each h (omega arith)
 
 -- ---- the rows as parts

@@ -11,8 +11,6 @@ use lib.Dec.{T, leb}
 use Rattle.laws.specs.Limits.{narrow, degreeLow, degreeHigh, isDegree}
 use Rattle.laws.proofs.Width.{narrow-facts, degree-of}
 use Rattle.lists.specs.Accepted.{Bytes}
-use Rattle.kept.specs.declared.table.Table.{Table}
-use Rattle.table.specs.Working.{againTable}
 use Rattle.table.proofs.Laws.Build.{build-out, build-refused, build-workable, build-done}
 use Rattle.table.proofs.making.build.Statement.{statement}
 use Rattle.table.proofs.making.build.Tie as tie
@@ -54,27 +52,26 @@ returns-3 c =
     ∙ build-refused narrow (now (s .args .list)) (s .args .degree) (degree (at-list .before)) (at-list .read-list .ensures)
     (at-answer .answer .given .1)
 
--- the list is taken, from where its rows are a table
-abbrev taken : tie.After-unworked → tie.After-enum-told
-taken c = c .before .before .before .before .before
+-- the list is taken, from where its rows are lent
+abbrev taken : tie.After-made-arg3 → tie.After-enum-told
+taken c = c .before .before .before .before
 
-again-requires : tie.Need-again-requires
-again-requires c κs =
+made-requires : tie.Need-made-requires
+made-requires c κs =
     let told = taken c in
     let at-list = told .before .before in
     let s = start at-list in
-    rw (c .unworked .ensures)
-    (build-workable narrow (now (s .args .list)) (s .args .degree) (degree (at-list .before)) (at-list .read-list .ensures) narrow-facts
-    (bytes at-list) (told .enum-told .given .1))
+    build-workable narrow (now (s .args .list)) (s .args .degree) (degree (at-list .before)) (at-list .read-list .ensures) narrow-facts
+    (bytes at-list) (told .enum-told .given .1)
 
 returns-4 : tie.Need-returns-4
 returns-4 c =
     let told = taken (c .before) in
     let at-list = told .before .before in
     let s = start at-list in
-    build-done narrow (now (s .args .list)) (s .args .degree) (degree (at-list .before)) (at-list .read-list .ensures) narrow-facts
+    c .made .ensures
+    ∙ build-done narrow (now (s .args .list)) (s .args .degree) (degree (at-list .before)) (at-list .read-list .ensures) narrow-facts
     (bytes at-list) (told .enum-told .given .1)
-    (c .again .ensures ∙ ap (λ (t : Table). againTable narrow t 0) (c .before .unworked .ensures))
 
 pub build-spec : {M : Type 1} → statement M
 build-spec =
@@ -89,6 +86,5 @@ build-spec =
     (λ c κs. search needs)
     returns-3
     (λ c. search needs)
-    (λ c κs. search needs)
-    again-requires
+    made-requires
     returns-4)

@@ -1,4 +1,4 @@
--- `table::rescoring::rescore` meets its contract: each refusal in its order, and else the table with the new score, worked out again.
+-- `table::rescoring::rescore` meets its contract: each refusal in its order, and else the table with the new score, worked out.
 -- Assumes nothing.
 use mathlib.Core.Path.{_≡_, ap, _∙_}
 use mathlib.Core.Bool.{true}
@@ -89,13 +89,15 @@ returns-3 c =
     rescore-bad-score narrow (s .args .given) (s .args .cluster) (s .args .weight) (s .args .state) (fit (fits-at (at .before))) (listed at)
     (failed (score (c .before)) (c .if3 .taken))
 
-again-requires : tie.Need-again-requires
-again-requires c κs =
+scored-requires : tie.Need-scored-requires
+scored-requires c κs =
     let at = c .before .before in
-    let s = start (at .before) in
-    score-workable narrow narrow-facts (s .args .given) (s .args .cluster) (s .args .weight) (s .args .state) (sized s)
-    (true-T (fit (fits-at (at .before)))) (at .before .before .place-of .result) (at .if2 .left) (found at)
-    (true-T (passed (score (c .before)) (c .if3 .left))) (λ j h. words s j) (toZ-ofZ (s .fits .weight))
+    let s = start (at .before) in (
+      room c,
+      score-workable narrow narrow-facts (s .args .given) (s .args .cluster) (s .args .weight) (s .args .state) (sized s)
+          (true-T (fit (fits-at (at .before)))) (at .before .before .place-of .result) (at .if2 .left) (found at)
+          (true-T (passed (score (c .before)) (c .if3 .left))) (λ j h. words s j) (toZ-ofZ (s .fits .weight)),
+    )
 
 returns-4 : tie.Need-returns-4
 returns-4 c =
@@ -104,8 +106,9 @@ returns-4 c =
     let f = fit (fits-at (at .before)) in
     rescore-done narrow (s .args .given) (s .args .cluster) (s .args .weight) (s .args .state) f (listed at)
     (passed (score (c .before .before)) (c .before .if3 .left))
-    (score-done narrow narrow-facts (s .args .given) (s .args .cluster) (s .args .weight) (s .args .state) (sized s) (true-T f)
-    (at .before .before .place-of .result) (at .if2 .left) (found at) (toZ-ofZ (s .fits .weight)) (c .again .ensures))
+    (c .scored .ensures
+    ∙ score-done narrow narrow-facts (s .args .given) (s .args .cluster) (s .args .weight) (s .args .state) (sized s) (true-T f)
+    (at .before .before .place-of .result) (at .if2 .left) (found at) (toZ-ofZ (s .fits .weight)))
 
 pub rescore-spec : {M : Type 1} → statement M
 rescore-spec =
@@ -117,8 +120,5 @@ rescore-spec =
     returns-2
     (λ c κs. search needs)
     returns-3
-    (λ c. omega (arith, room c))
-    room
-    room
-    again-requires
+    scored-requires
     returns-4)

@@ -11,7 +11,7 @@ use Rattle.table.proofs.Tuples.Searchable.{start-past}
 use Rattle.table.proofs.Tuples.SearchRow.{inner-asks, under-asks}
 use Rattle.table.proofs.Tuples.Running.{running-all, running-ended, running-outside, running-unscored, running-added}
 use Rattle.table.proofs.searching.+search.Proof.Places.{μ-search, search-at, claims, Inv, μ, reached, loopStart, looked}
-use Rattle.table.proofs.searching.+search.Proof.Places.{tested, turn, partRow, asked, place, start-is, two, below, led}
+use Rattle.table.proofs.searching.+search.Proof.Places.{tested, turn, partRow, asked, place, start-is, two, room, led}
 use Rattle.table.proofs.searching.+search.Proof.Places.{next-small, adds-whole, adds-part, asks}
 use Rattle.table.proofs.searching.search.Reads as search′
 use Rattle.table.proofs.searching.+search.Lts-search as search-lts
@@ -36,26 +36,7 @@ module _ (t : ℕ) where
   -- ---- the next row
 
   mul-c : search-lts.Need-mul-c (claims t) (search-at t) search′.Post Inv μ
-  mul-c c = let q = asked t (loopStart t (c .before)) in record { fits = omega (arith, q .within, q .capped, below t c) }
-
-  shared-slice-read-is-scored : search-lts.Need-shared-slice-read-is-scored (claims t) (search-at t) search′.Post Inv μ
-  shared-slice-read-is-scored c =
-      let at-test = c .before .before .before .before in
-      omega (arith, below t at-test, asked t (loopStart t (at-test .before)) .readable .long .states)
-
-  part-requires : search-lts.Need-part-requires (claims t) (search-at t) search′.Post Inv μ
-  part-requires c κs =
-      let n = below t (tested t c) in
-      let long = asked t (loopStart t (turn t c)) .readable .long in (
-        omega (arith, n, long .counts),
-        (
-          omega (arith, n, long .marks),
-          (
-            omega (arith, n, long .bests),
-            (omega (arith, n, long .lows), omega (arith, n, long .highs)),
-          ),
-        ),
-      )
+  mul-c c = record { fits = omega (arith, room t c) }
 
   -- ---- the row is all of what is left
 
@@ -104,18 +85,18 @@ pub +search-spec : {M : Type 1} → statement M
     (λ c κs. search needs)
     (λ c. record { fits = omega (arith, place t c) })
     (λ c. record { fits = omega (arith, place t c) })
-    (λ c. omega (arith, place t (c .before), asked t (reached t (c .before)) .begins .long))
+    (λ c. omega (arith, place t c))
     (last-requires t)
     (λ c. rw (c .before .if1 .taken) (c .last .ensures))
     (λ c κs. search needs)
     (loop-holds t)
     (λ c. omega arith)
     (mul-c t)
-    (λ c. omega (arith, below t (c .before), asked t (loopStart t (c .before .before)) .readable .long .clusters))
+    (room t)
     (λ c κs. search needs)
-    (shared-slice-read-is-scored t)
+    (λ c. room t (c .before .before .before))
     (λ c κs. search needs)
-    (part-requires t)
+    (λ c κs. room t (tested t c))
     (λ c. le-of-inside _ _ (true-T (led t (c .before) .within)))
     (λ c κs. asks t (tested t (c .before .before)) (adds-whole t c))
     (λ c. omega arith)
@@ -124,7 +105,7 @@ pub +search-spec : {M : Type 1} → statement M
     (λ c. record { fits = omega (arith, next-small t c) })
     (λ c. record { fits = omega (arith, next-small t c) })
     (λ c. record { fits = omega (arith, next-small t c) })
-    (λ c. omega (arith, next-small t (c .before), asked t (loopStart t (turn t (partRow t (c .before)))) .begins .long))
+    (next-small t)
     (λ c. omega (arith, loopStart t (turn t (partRow t (c .before))) .pre .1 .1 .0))
     (search-requires t)
     (under-requires t)

@@ -1,9 +1,12 @@
 -- `table::searching::last` meets its contract: the rows below `rest` are counted, and the next one is `rest` or no row is. Assumes nothing.
 use mathlib.Core.Path.{_∙_}
+use Prim.Native.Nat.{_<_}
+use native.Mathlib.Omega.{arith}
 use borrow.Author.Needs.{needs}
+use Rattle.laws.specs.Limits.{rowCap}
 use Rattle.laws.proofs.Tests.{passed, failed}
 use Rattle.table.specs.Columns.{Columns, columns}
-use Rattle.table.proofs.Tuples.Readable.{LowWords, missing-is, other-is, unscored-is, found-is}
+use Rattle.table.proofs.Tuples.Readable.{missing-is, other-is, unscored-is, found-is}
 use Rattle.table.proofs.searching.last.Statement.{statement}
 use Rattle.table.proofs.searching.last.Tie as tie
 
@@ -15,10 +18,11 @@ given s =
 
 -- the call, from the place at which the rows below have been counted
 abbrev start : tie.After-place-below → tie.Start
-start c = c .before .before .before .before .before .before .before
+start c = c .before
 
-words : (c : tie.After-place-below) → LowWords (given (start c))
-words c i = c .before .before .shared-slice-known5 .given i .fits
+-- the row that may be `rest`'s is one of the 128
+room : (c : tie.Else1) → c .before .place-below .result < rowCap
+room c = omega (arith, c .if1 .left, start (c .before) .pre .0 .capped)
 
 returns : tie.Need-returns
 returns c =
@@ -52,11 +56,23 @@ returns-4 c =
     let placed = there .before in
     let r = start placed .pre in
     c .part .ensures
-    ∙ found-is (r .0 .sound) (r .1 .0) (placed .place-below .ensures) (there .if1 .left) (words placed) (equal .if2 .left)
+    ∙ found-is (r .0 .sound) (r .1 .0) (placed .place-below .ensures) (there .if1 .left) (r .0 .words) (equal .if2 .left)
     (passed (told .is-scored .ensures) (c .before .if3 .left))
 
 pub last-spec : {M : Type 1} → statement M
 last-spec =
     tie.close
-    (tie.spec (λ c κs. search needs) (λ c κs. search needs) returns (λ c. search needs) (λ c. search needs) (λ c κs. search needs)
-    returns-2 (λ c. search needs) (λ c κs. search needs) (λ c κs. search needs) returns-3 (λ c κs. search needs) returns-4)
+    (tie.spec
+    (λ c κs. (c .pre .0 .capped, (c .pre .0 .sound .rising, c .pre .1 .1)))
+    (λ c κs. search needs)
+    returns
+    (λ c. omega (arith, room c))
+    room
+    (λ c κs. search needs)
+    returns-2
+    (λ c. room (c .before .before))
+    (λ c κs. search needs)
+    (λ c κs. search needs)
+    returns-3
+    (λ c κs. let equal = c .before .before .before in room (equal .before .before))
+    returns-4)

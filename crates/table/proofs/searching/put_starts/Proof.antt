@@ -14,10 +14,12 @@ abbrev μ-loop : tie.MeasureT-loop
 μ-loop starts₀ clusters n past₀ taxon₀ starts past taxon = 64 - taxon
 
 loop-holds : tie.Need-loop-holds Inv-loop μ-loop
-loop-holds c = subst (Begun _ _ 0 0) (sym (c .before .pre .0)) begun-none
+loop-holds c = subst (Begun _ _ 0 0) (sym (c .pre .0)) begun-none
 
 place-below-requires : tie.Need-place-below-requires Inv-loop μ-loop
-place-below-requires c κs = (c .before .before .before .pre .1, begun-asks (c .before .loop .inv) (c .loop-test .taken))
+place-below-requires c κs =
+    let asked = c .before .before .pre .1 in
+    (asked .0, (asked .1 .0, begun-asks (c .before .loop .inv) (c .loop-test .taken)))
 
 loop-again : tie.Need-loop-again Inv-loop μ-loop
 loop-again c =
@@ -26,7 +28,7 @@ loop-again c =
 
 returns : tie.Need-returns Inv-loop μ-loop
 returns c =
-    starts-of-begun (c .before .loop .inv) (c .loop-test .left) (λ i. c .before .before .shared-slice-known .given i .fits)
+    starts-of-begun (c .before .loop .inv) (c .loop-test .left) (c .before .before .pre .1 .1 .1)
 
 pub put-starts-spec : {M : Type 1} → statement M
 put-starts-spec =

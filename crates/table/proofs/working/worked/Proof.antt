@@ -1,14 +1,14 @@
 -- `table::working::worked` meets its contract: an unscored row and a one-taxon row end at once, and any other is the row over what the
 -- search of its tuples adds up. Assumes nothing.
 use mathlib.Core.Path.{_≡_, sym, ap, _∙_}
-use Prim.Native.Nat.{_≤_}
+use Prim.Native.Nat.{_≤_, _<_}
 use native.Mathlib.Omega.{arith}
 use borrow.Author.Needs.{needs}
 use lib.IntN.{ℤ}
 use mir.Facts.{toZ-ofZ}
 use mir.Syntax.{w32}
 use mir.Val.{SFits}
-use Rattle.laws.specs.Limits.{narrow, degreeLow, degreeHigh}
+use Rattle.laws.specs.Limits.{narrow, degreeLow, degreeHigh, rowCap}
 use Rattle.laws.proofs.Width.{degree-range}
 use Rattle.laws.proofs.Tests.{passed, failed}
 use Rattle.table.specs.Tally.{ownTally}
@@ -19,8 +19,8 @@ use Rattle.table.proofs.working.worked.Tie as tie
 
 -- ---- places
 
-abbrev start : tie.After-shared-slice-known8 → tie.Start
-start c = c .before .before .before .before .before .before .before .before
+abbrev start : tie.After-is-scored-arg → tie.Start
+start c = c .before
 
 abbrev columnsAt : tie.Start → Columns
 columnsAt s =
@@ -30,6 +30,13 @@ columnsAt s =
 -- a scored row of two taxa or more, from where its own tally is at hand
 abbrev scored-row : tie.After-own2 → tie.Else1
 scored-row c = c .before .before .before .before .before
+
+-- the call, from where the row is known to have two taxa or more
+abbrev many : tie.Else2 → tie.Start
+many c = let row = c .before .before .before in start (row .before .before)
+
+room : (s : tie.Start) → s .args .i < rowCap
+room s = omega (arith, s .pre .place, s .pre .capped)
 
 weight-fits : (s : tie.Start) → SFits w32 (s .args .weight)
 weight-fits s = search needs
@@ -62,15 +69,15 @@ returns-2 c =
     (passed (row .before .is-scored .ensures) (row .if1 .left)) (sym (single .is-single .ensures) ∙ c .before .if2 .taken)
 
 -- past both tests, the degree bound that was asked for is one that is taken
-asked : (c : tie.Else2) → let d = start (c .before .before .before .before .before) .args .degree in (degreeLow ≤ d) × (d ≤ degreeHigh)
-asked c = let s = start (c .before .before .before .before .before) in degree-range {d = s .args .degree} (s .pre .degree)
+asked : (c : tie.Else2) → let d = many c .args .degree in (degreeLow ≤ d) × (d ≤ degreeHigh)
+asked c = let s = many c in degree-range {d = s .args .degree} (s .pre .degree)
 
 sub-search : tie.Need-sub-search
 sub-search c = omega (arith, asked c .0)
 
 search-requires : tie.Need-search-requires
 search-requires c κs =
-    let s = start (c .before .before .before .before .before) in
+    let s = many c in
     (searchable (s .pre), (omega (arith, asked c .0), omega (arith, asked c .1)))
 
 returns-3 : tie.Need-returns-3
@@ -88,17 +95,17 @@ pub worked-spec : {M : Type 1} → statement M
 worked-spec =
     tie.close
     (tie.spec
-    (λ c. search needs)
+    room
     (λ c κs. search needs)
     (λ c κs. search needs)
     returns
-    (λ c. search needs)
-    (λ c. search needs)
+    (λ c. omega (arith, room (start (c .before .before))))
+    (λ c. room (start (c .before .before)))
     (λ c κs. search needs)
-    (λ c κs. search needs)
+    (λ c κs. let row = c .before .before .before in room (start (row .before .before)))
     returns-2
     sub-search
     search-requires
-    (λ c κs. search needs)
+    (λ c κs. room (many (c .before)))
     (λ c κs. under-fits (start (scored-row c .before .before) .pre) (own-is c) (c .before .search .ensures))
     returns-3)

@@ -4,7 +4,7 @@
 --     claims                   what the functions that are called ask and tell
 --     Inv, μ                   the loop's invariant and its measure, the rows left
 --     reached, loopStart, looked, tested, turn, partRow     from one place back to another
---     given, asked, words      the columns, what the search may count on, and that low words of marks are words
+--     given, asked, room       the columns, what the search may count on, and that the row looked at is one of the 128
 --     place, start-is, two     before the loop: the highest taxon, where its rows start, and that two children may be left
 --     below, led               at a row: it is one of those searched, and it leads what is left
 --     next-small, adds-whole, adds-part, asks     what the row adds, and that the sums fit
@@ -16,14 +16,13 @@ use borrow.Fn.Kinds.{In}
 use borrow.Fn.PlainCycle.{Measures, is, falls, and}
 use lib.ListN.{getD}
 use Rattle.laws.specs.Cluster.{highest}
-use Rattle.laws.specs.Limits.{wordValues}
+use Rattle.laws.specs.Limits.{rowCap, wordValues}
 use Rattle.cluster.proofs.highest.Reads as highest-reads
 use Rattle.cluster.proofs.is_inside.Reads as is-inside-reads
 use Rattle.cluster.proofs.is_scored.Reads as is-scored-reads
 use Rattle.table.specs.declared.tally.Tally.{Tally}
 use Rattle.table.specs.Searched.{Searchable}
 use Rattle.table.specs.Columns.{Columns, columns}
-use Rattle.table.proofs.Tuples.Readable.{LowWords}
 use Rattle.table.proofs.Tuples.Searchable.{taxon-fits}
 use Rattle.table.proofs.Tuples.SearchRow.{Led, Adds, whole-adds, next-place, part-adds}
 use Rattle.table.proofs.Tuples.Running.{Running, plus-asks}
@@ -84,9 +83,6 @@ module _ (t : ℕ) where
   abbrev pub Start : Type 0
   Start = search-lts.Start (claims t) (search-at t) search′.Post Inv μ
 
-  abbrev pub Opened : Type 0
-  Opened = search-lts.After-shared-slice-known7 (claims t) (search-at t) search′.Post Inv μ
-
   abbrev pub Reached : Type 0
   Reached = search-lts.After-highest (claims t) (search-at t) search′.Post Inv μ
 
@@ -114,18 +110,12 @@ module _ (t : ℕ) where
   abbrev pub Under : Type 0
   Under = search-lts.After-under (claims t) (search-at t) search′.Post Inv μ
 
-  -- back to the call: from where all slices are known, from the highest taxon, from the loop's head
-  abbrev pub opened : Opened → Start
-  opened c = c .before .before .before .before .before .before .before
-
+  -- back to the call: from the highest taxon, from the loop's head
   abbrev pub reached : Reached → Start
-  reached c = opened (c .before)
-
-  abbrev pub known : Loop → Opened
-  known c = c .before .before .before .before .before
+  reached c = c .before
 
   abbrev pub loopStart : Loop → Start
-  loopStart c = opened (known c)
+  loopStart c = let more = c .before .before in reached (more .before .before)
 
   -- back to the loop's test and head, from where it is told whether a row inside is scored, and from where it is; and to there, from the
   -- highest taxon that it leaves
@@ -151,9 +141,6 @@ module _ (t : ℕ) where
   pub asked : (s : Start) → Searchable (s .args .limit) (given s) (s .args .starts .now) (s .args .end) (s .args .rest)
   asked s = s .pre .1 .0
 
-  pub words : (c : Opened) → LowWords (given (opened c))
-  words c i = c .before .before .shared-slice-known5 .given i .fits
-
   pub place : (c : Reached) → c .highest .result < 64
   place c = omega (arith, c .highest .ensures, taxon-fits (asked (reached c)))
 
@@ -167,6 +154,9 @@ module _ (t : ℕ) where
   pub below : (c : Turn) → c .before .loop .i - 1 < loopStart (c .before) .args .end
   below c = omega (arith, c .before .loop .inv .within, c .loop-test .taken)
 
+  pub room : (c : Turn) → c .before .loop .i - 1 < rowCap
+  room c = let q = asked (loopStart (c .before)) in omega (arith, below c, q .readable .capped)
+
   pub led : (c : Row) → let s = loopStart (turn c) in
       Led (s .args .limit) (given s) (s .args .starts .now) (s .args .end) (s .args .rest) (turn c .loop .i - 1)
   led c = record {
@@ -175,7 +165,6 @@ module _ (t : ℕ) where
     reached = omega (arith, turn c .loop .inv .begins, tested c .loop-test .taken);
     within = let at = c .before .before .before in sym (at .before .is-inside .ensures) ∙ at .if2 .taken;
     scored = sym (c .before .is-scored .ensures) ∙ c .if3 .taken;
-    words = words (known (turn c));
   }
 
   pub next-small : (c : Part) → c .highest2 .result + 1 < 65
