@@ -2,5 +2,3 @@
 pub mod Laws
 -- one outcome for each operation, there and back again, acceptance
 pub mod Theorems
--- the highest taxon by leading zeros, for this crate's proofs
-mod Leading

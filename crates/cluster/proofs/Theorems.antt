@@ -1,6 +1,6 @@
 -- What is true of records and their operations (document 01, "The record", "What is sent back", "Strict marking").
---     value-only            one outcome where a promise is an equation to a value: the leaves, `broken_rule`, `is_kept`, `number_of` and
---                           `position_of`
+--     value-only            one outcome where a promise is an equation to a value: those of `taxa`, `is_scored`, `broken_rule`, `is_kept`,
+--                           `number_of` and `position_of`
 --     read-only             one outcome of `read_record`: the answer and the record
 --     write-only            one outcome of `write_record`: the answer and every byte of the room
 --     kept-iff, score-iff   no rule is broken exactly where the paper's sentences hold (`Keeps`, `KeepsScore` of `specs/Rule.antt`)

@@ -1,28 +1,21 @@
-// Clusters and their records: the leaves that every crate above is built of, the twelve bytes of a record, and the refusals.
-// Nothing public has a `requires`, and each `ensures` is one equation to a definition of `specs/`.
-//     is_inside, is_strict, is_apart, size, is_single, highest, lowest   a cluster as 64 bits
-//     is_scored                                                          a state
-//     Refusal, Answer, number_of, position_of                            what is sent back
-//     Record                                                             a record
-//     Rule, broken_rule, is_kept, is_score                               the record rules
-//     Reading, read_record, write_record                                 twelve bytes to a record, and back
-//     RECORD_BYTES, WEIGHT_MAX                                           how many bytes a record has, and the largest weight
+// Clusters and their records: the state of a record, its twelve bytes, its rules, and the refusals of every operation. Nothing public has a
+// `requires`, and each `ensures` is one equation to a definition of `specs/`.
+//     is_scored                                   a state
+//     Refusal, Answer, number_of, position_of     what is sent back
+//     Record                                      a record
+//     Rule, broken_rule, is_kept, is_score        the record rules
+//     Reading, read_record, write_record          twelve bytes to a record, and back
+//     RECORD_BYTES, WEIGHT_MAX                    how many bytes a record has, and the largest weight
+// Passed on from the crate `taxa`:
+//     is_inside, is_strict, is_apart, size, is_single, highest, lowest     a cluster as a set of taxa
 mod bytes;
-mod leaves;
 mod reading;
 mod record;
 mod refusal;
 mod rule;
+mod state;
 mod writing;
 
-pub use leaves::highest;
-pub use leaves::is_apart;
-pub use leaves::is_inside;
-pub use leaves::is_scored;
-pub use leaves::is_single;
-pub use leaves::is_strict;
-pub use leaves::lowest;
-pub use leaves::size;
 pub use reading::Reading;
 pub use reading::read_record;
 pub use record::RECORD_BYTES;
@@ -36,4 +29,12 @@ pub use rule::WEIGHT_MAX;
 pub use rule::broken_rule;
 pub use rule::is_kept;
 pub use rule::is_score;
+pub use state::is_scored;
+pub use taxa::highest;
+pub use taxa::is_apart;
+pub use taxa::is_inside;
+pub use taxa::is_single;
+pub use taxa::is_strict;
+pub use taxa::lowest;
+pub use taxa::size;
 pub use writing::write_record;

@@ -7,11 +7,11 @@
 //     put_record       the bytes of a record, stored
 use crate::bytes::BYTE_VALUES;
 use crate::bytes::put_word;
-use crate::bytes::signed_of;
-use crate::bytes::unsigned_of;
 use crate::bytes::word_at;
 use crate::rule::Rule;
 use crate::rule::broken_rule;
+use signed::signed_of;
+use signed::unsigned_of;
 ghost use mathlib.Core.Path.{_≡_};
 ghost use mathlib.Core.List.{_++_};
 ghost use Prim.Native.Nat.{_≤_};

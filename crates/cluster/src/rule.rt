@@ -3,13 +3,10 @@
 //     broken_rule     the rule that a cluster, a weight and a state break first
 //     is_kept         whether they break none
 //     is_score        whether a weight and a state break none, whatever the cluster
-use crate::leaves::is_scored;
+use crate::state::UNSCORED;
+use crate::state::is_state;
 ghost use mathlib.Core.Path.{_≡_};
-ghost use Rattle.laws.specs.State.{isState};
 ghost use Rattle.cluster.specs.Rule.{inRange, unscoredWeight, brokenRule, isKept, isScore};
-
-// The state of a cluster without a score.
-const UNSCORED: u8 = 0;
 
 // The largest weight, either way.
 pub const WEIGHT_MAX: i32 = 1000000;
@@ -28,16 +25,6 @@ pub enum Rule {
     UnscoredWeight,
     // The weight is out of range.
     WeightRange,
-}
-
-// Whether a number is a state.
-fn is_state(state: u8) -> bool
-    ensures { λ b. ⌜ b ≡ isState state ⌝ }
-{
-    if state == UNSCORED {
-        return true;
-    }
-    is_scored(state)
 }
 
 // Whether a weight is in range.

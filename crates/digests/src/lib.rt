@@ -2,31 +2,17 @@
 // Cites `specs/Digest.antt`.
 //     ladlepine_build       the digest of a built table
 //     ladlepine_rescore     the digest of a built table after a number of rescorings of one cluster
+use signed::unsigned_long_of;
 use std::num::wrapping_add_u64;
 use table::build;
 use table::rescore;
 ghost use mathlib.Core.Path.{_≡_};
-ghost use mir.Syntax.{w64};
-ghost use mir.Val.{ofZ};
 ghost use Rattle.laws.specs.Limits.{narrow, rowCap};
 ghost use Rattle.table.specs.Build.{buildTable};
 ghost use Rattle.digests.specs.Digest.{rowDigest, results, Full, digestTo, digest, rescoredTimes};
 
-// The last number of 64 bits, which stands for -1.
-const MINUS_ONE: u64 = 18446744073709551615;
-
 // How many rows a table has room for.
 const ROW_CAP: usize = 128;
-
-// The 64 bits of a signed number in two's complement.
-fn bits_of(z: i64) -> u64
-    ensures { λ n. ⌜ n ≡ ofZ w64 z ⌝ }
-{
-    if 0 <= z {
-        return z as u64;
-    }
-    MINUS_ONE - ((-1 - z) as u64)
-}
 
 // The results of one row added up, past 64 bits from the start again.
 fn row_digest(length: u64, count: u64, mark: u8, best: i64, low: u64, high: u64) -> u64
@@ -34,7 +20,7 @@ fn row_digest(length: u64, count: u64, mark: u8, best: i64, low: u64, high: u64)
 {
     let counts = wrapping_add_u64(length, count);
     let members = wrapping_add_u64(low, high);
-    let rest = wrapping_add_u64(mark as u64, bits_of(best));
+    let rest = wrapping_add_u64(mark as u64, unsigned_long_of(best));
     wrapping_add_u64(wrapping_add_u64(counts, members), rest)
 }
 

@@ -4,7 +4,6 @@
 use crate::numbers::LONG_BYTES;
 use crate::numbers::WORD_BYTES;
 use crate::numbers::best_at;
-use crate::numbers::bits_of;
 use crate::numbers::number_at;
 use crate::numbers::put_number;
 use crate::numbers::weight_at;
@@ -13,6 +12,7 @@ use crate::numbers::word_at;
 use crate::stream::fill;
 use crate::stream::write;
 use crate::stream::write_number;
+use signed::unsigned_long_of;
 use table::Table;
 ghost use mathlib.Core.Path.{_≡_};
 ghost use Prim.Native.Nat.{_+_, _≤_};
@@ -155,7 +155,12 @@ fn write_bests(column: [i64; 128]) {
     let mut bytes = [0u8; 1024];
     let mut i = 0;
     while i < ROWS {
-        put_number(&mut bytes, i * LONG_BYTES, LONG_BYTES, bits_of(column[i]));
+        put_number(
+            &mut bytes,
+            i * LONG_BYTES,
+            LONG_BYTES,
+            unsigned_long_of(column[i]),
+        );
         i += 1;
     }
     write(&bytes);

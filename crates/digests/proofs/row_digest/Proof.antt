@@ -18,7 +18,7 @@ returns c =
     let members = bits .before in
     let counts = members .before in
     let start = counts .before in
-    let best = bits .bits-of .ensures ∙ ap (ofZ w64) (toZ-ofZ (best-fits start)) in
+    let best = bits .unsigned-long-of .ensures ∙ ap (ofZ w64) (toZ-ofZ (best-fits start)) in
     c .wrapping-add-u645 .ensures
     ∙ ap₂ wrap
     (c .before .wrapping-add-u644 .ensures

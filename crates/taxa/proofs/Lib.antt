@@ -1,0 +1,2 @@
+-- the highest taxon by leading zeros, for this crate's proofs
+mod Leading
