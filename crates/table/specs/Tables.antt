@@ -1,12 +1,11 @@
 -- Tables as the private functions have them, column by column.
 --     tableIn               columns as a table
 --     unworkedTable         those of a list's rows, with no results
---     withScore t i z s     the table t with the weight z and the state s in row i
 -- Assumes nothing.
 use mathlib.Core.List.{List}
 use Prim.Native.Nat.{ℕ}
 use lib.IntN.{ℤ, pos}
-use lib.ListN.{set, replicate}
+use lib.ListN.{replicate}
 use Rattle.laws.specs.Limits.{rowCap}
 use Rattle.kept.specs.declared.table.Table.{Table}
 
@@ -29,8 +28,3 @@ abbrev pub unworkedTable : ℕ → List ℕ → List ℤ → List ℕ → ℕ �
 unworkedTable n clusters weights states d =
     let zeros : List ℕ = replicate rowCap 0 in
     tableIn n d clusters weights states zeros zeros zeros (replicate rowCap (pos 0)) zeros zeros
-
-abbrev pub withScore : Table → ℕ → ℤ → ℕ → Table
-withScore t i z s =
-    tableIn (t .rows) (t .degree) (t .clusters) (set (t .weights) i z) (set (t .states) i s)
-    (t .lengths) (t .counts) (t .marks) (t .bests) (t .«members_low») (t .«members_high»)

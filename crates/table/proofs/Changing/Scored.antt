@@ -1,5 +1,6 @@
--- A new weight and state stored in the row of a cluster: the table that `scored` works out again (`src/rescoring.rt`).
+-- A new weight and state stored in the row of a cluster: the table that `rescore` has worked out again (`src/rescoring.rt`).
 --     row-missing, row-listed, row-found     what the code's look-up tells
+--     withScore t i z s       the table t with the weight z and the state s in row i
 --     score-entries           its rows are those of the paper's `putScore`
 --     score-workable          its rows may be worked out again
 --     score-done              and the table so worked out is the rescored one
@@ -14,7 +15,7 @@ use native.Mathlib.Omega.{arith}
 use borrow.Author.Tests.{eq-eqb, ne-eqb, lt-ltb, le-ltb}
 use lib.Dec.{T}
 use lib.IntN.{ℤ, pos}
-use lib.ListN.{getD, length-set}
+use lib.ListN.{getD, set, length-set}
 use lib.Seq.{getD-set-same, getD-set-other}
 use Rattle.laws.specs.Cluster.{inside}
 use Rattle.laws.specs.Limits.{Width, rowCap}
@@ -35,7 +36,7 @@ use Rattle.kept.proofs.Laws.Fit.{FitTable, isFit→, fit-rules}
 use Rattle.kept.proofs.Laws.Clusters.{clusters-are}
 use Rattle.kept.proofs.Laws.Rows.{hasRow-is, placeOf-at}
 use Rattle.table.specs.Rescore.{newTable}
-use Rattle.table.specs.Tables.{withScore}
+use Rattle.table.specs.Tables.{tableIn}
 use Rattle.table.specs.Searched.{WordsIn}
 use Rattle.table.specs.Working.{againTable, Workable}
 use Rattle.table.proofs.Fitting.FitTables.{putEntry, put-rules}
@@ -54,6 +55,11 @@ module _ (t : Table) (capped : t .rows ≤ rowCap) (c i : ℕ) (e : i ≡ placeO
       ap (λ (n : ℕ). getD (t .clusters) n 0) e ∙ placeOf-at t capped c (subst (λ (n : ℕ). n < t .rows) e h)
 
 -- ---- its score
+
+abbrev pub withScore : Table → ℕ → ℤ → ℕ → Table
+withScore t i z s =
+    tableIn (t .rows) (t .degree) (t .clusters) (set (t .weights) i z) (set (t .states) i s)
+    (t .lengths) (t .counts) (t .marks) (t .bests) (t .«members_low») (t .«members_high»)
 
 module _ (t : Table) (i : ℕ) (z : ℤ) (s : ℕ) where
   score-same : Sized t → i < rowCap → entryAt (withScore t i z s) i

@@ -25,39 +25,39 @@ use Rattle.table.proofs.rescoring.rescore.Tie as tie
 
 -- ---- the table given
 
-sized : (s : tie.Start) → Sized (s .args .given)
+sized : (s : tie.Start) → Sized (s .args .t1)
 sized s = search needs
 
-words : (s : tie.Start) (j : ℕ) → getD (s .args .given .«members_low») j 0 < wordValues
-words s j = let f : Fits w64 (getD (s .args .given .«members_low») j 0) = search needs in f .fits
+words : (s : tie.Start) (j : ℕ) → getD (s .args .t1 .«members_low») j 0 < wordValues
+words s j = let f : Fits w64 (getD (s .args .t1 .«members_low») j 0) = search needs in f .fits
 
-fit : (c : tie.Else1) → isFit narrow (c .before .before .args .given) ≡ true
+fit : (c : tie.Else1) → isFit narrow (c .before .before .args .t1) ≡ true
 fit c = passed (c .before .is-fit .ensures) (c .if1 .left)
 
-capped : (c : tie.Else1) → c .before .before .args .given .rows ≤ 128
-capped c = isFit→ narrow narrow-facts (c .before .before .args .given) (true-T (fit c)) .capped
+capped : (c : tie.Else1) → c .before .before .args .t1 .rows ≤ 128
+capped c = isFit→ narrow narrow-facts (c .before .before .args .t1) (true-T (fit c)) .capped
 
 -- ---- the row of the cluster
 
-abbrev fits-at : tie.After-struct-known → tie.Else1
-fits-at c = c .before .before
+abbrev fits-at : tie.After-place-of → tie.Else1
+fits-at c = c .before
 
-abbrev start : tie.After-struct-known → tie.Start
+abbrev start : tie.After-place-of → tie.Start
 start c = fits-at c .before .before
 
-listed : (c : tie.Else2) → hasRow (start (c .before) .args .given) (start (c .before) .args .cluster) ≡ true
+listed : (c : tie.Else2) → hasRow (start (c .before) .args .t1) (start (c .before) .args .cluster) ≡ true
 listed c =
     let s = start (c .before) in
-    row-listed (s .args .given) (capped (fits-at (c .before))) (s .args .cluster) _ (c .before .before .place-of .ensures) (c .if2 .left)
+    row-listed (s .args .t1) (capped (fits-at (c .before))) (s .args .cluster) _ (c .before .place-of .ensures) (c .if2 .left)
 
-room : (c : tie.Else3) → c .before .before .before .before .place-of .result < 128
+room : (c : tie.Else3) → c .before .before .before .place-of .result < 128
 room c = let at = c .before .before in omega (arith, at .if2 .left, capped (fits-at (at .before)))
 
 found : (c : tie.Else2)
-    → let s = start (c .before) in getD (s .args .given .clusters) (c .before .before .place-of .result) 0 ≡ s .args .cluster
+    → let s = start (c .before) in getD (s .args .t1 .clusters) (c .before .place-of .result) 0 ≡ s .args .cluster
 found c =
     let s = start (c .before) in
-    row-found (s .args .given) (capped (fits-at (c .before))) (s .args .cluster) _ (c .before .before .place-of .ensures) (c .if2 .left)
+    row-found (s .args .t1) (capped (fits-at (c .before))) (s .args .cluster) _ (c .before .place-of .ensures) (c .if2 .left)
 
 -- ---- the new score
 
@@ -72,43 +72,50 @@ score c =
 returns : tie.Need-returns
 returns c =
     let s = c .before .before in
-    rescore-unfit narrow (s .args .given) (s .args .cluster) (s .args .weight) (s .args .state)
+    rescore-unfit narrow (s .args .t1) (s .args .cluster) (s .args .weight) (s .args .state)
     (failed (c .before .is-fit .ensures) (c .if1 .taken))
 
 returns-2 : tie.Need-returns-2
 returns-2 c =
     let s = start (c .before) in
     let f = fits-at (c .before) in
-    rescore-no-row narrow (s .args .given) (s .args .cluster) (s .args .weight) (s .args .state) (fit f)
-    (row-missing (s .args .given) (capped f) (s .args .cluster) _ (c .before .before .place-of .ensures) (c .if2 .taken))
+    rescore-no-row narrow (s .args .t1) (s .args .cluster) (s .args .weight) (s .args .state) (fit f)
+    (row-missing (s .args .t1) (capped f) (s .args .cluster) _ (c .before .place-of .ensures) (c .if2 .taken))
 
 returns-3 : tie.Need-returns-3
 returns-3 c =
     let at = c .before .before in
     let s = start (at .before) in
-    rescore-bad-score narrow (s .args .given) (s .args .cluster) (s .args .weight) (s .args .state) (fit (fits-at (at .before))) (listed at)
+    rescore-bad-score narrow (s .args .t1) (s .args .cluster) (s .args .weight) (s .args .state) (fit (fits-at (at .before))) (listed at)
     (failed (score (c .before)) (c .if3 .taken))
 
-scored-requires : tie.Need-scored-requires
-scored-requires c κs =
-    let at = c .before .before in
-    let s = start (at .before) in (
-      room c,
-      score-workable narrow narrow-facts (s .args .given) (s .args .cluster) (s .args .weight) (s .args .state) (sized s)
-          (true-T (fit (fits-at (at .before)))) (at .before .before .place-of .result) (at .if2 .left) (found at)
-          (true-T (passed (score (c .before)) (c .if3 .left))) (λ j h. words s j) (toZ-ofZ (s .fits .weight)),
-    )
+-- the score is taken, from where the table is lent, and from where all its columns are
+abbrev changed : tie.After-given → tie.Else3
+changed c = c .before .before .before
+
+abbrev lent : tie.After-reworked-arg7 → tie.Else3
+lent c = let half = c .before .before .before .before in changed (half .before .before .before .before .before)
+
+reworked-requires : tie.Need-reworked-requires
+reworked-requires c κs =
+    let scored = lent c in
+    let at = scored .before .before in
+    let s = start (at .before) in
+    score-workable narrow narrow-facts (s .args .t1) (s .args .cluster) (s .args .weight) (s .args .state) (sized s)
+    (true-T (fit (fits-at (at .before)))) (at .before .place-of .result) (at .if2 .left) (found at)
+    (true-T (passed (score (scored .before)) (scored .if3 .left))) (λ j h. words s j) (toZ-ofZ (s .fits .weight))
 
 returns-4 : tie.Need-returns-4
 returns-4 c =
-    let at = c .before .before .before in
+    let scored = lent (c .before) in
+    let at = scored .before .before in
     let s = start (at .before) in
     let f = fit (fits-at (at .before)) in
-    rescore-done narrow (s .args .given) (s .args .cluster) (s .args .weight) (s .args .state) f (listed at)
-    (passed (score (c .before .before)) (c .before .if3 .left))
-    (c .scored .ensures
-    ∙ score-done narrow narrow-facts (s .args .given) (s .args .cluster) (s .args .weight) (s .args .state) (sized s) (true-T f)
-    (at .before .before .place-of .result) (at .if2 .left) (found at) (toZ-ofZ (s .fits .weight)))
+    c .reworked .ensures
+    ∙ rescore-done narrow (s .args .t1) (s .args .cluster) (s .args .weight) (s .args .state) f (listed at)
+    (passed (score (scored .before)) (scored .if3 .left))
+    (score-done narrow narrow-facts (s .args .t1) (s .args .cluster) (s .args .weight) (s .args .state) (sized s) (true-T f)
+    (at .before .place-of .result) (at .if2 .left) (found at) (toZ-ofZ (s .fits .weight)))
 
 pub rescore-spec : {M : Type 1} → statement M
 rescore-spec =
@@ -120,5 +127,8 @@ rescore-spec =
     returns-2
     (λ c κs. search needs)
     returns-3
-    scored-requires
+    (λ c. omega (arith, room (c .before .before)))
+    (λ c. room (c .before .before))
+    (λ c. room (c .before .before))
+    reworked-requires
     returns-4)
