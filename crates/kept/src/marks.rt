@@ -1,26 +1,29 @@
-// The member marks of one row, walked by their set bits alone. Cites `specs/Marks.antt`, and `specs/Fields.antt` for the marks of a word.
-//     has_mark         whether a row is marked
+// The member marks of one row: one of them, and all, walked by their set bits alone. Cites `specs/Marks.antt`, and `specs/Fields.antt` for
+// the marks of a word.
+//     is_marked        whether a row is marked
 //     is_word_fit      whether each row that a word marks is there, and lies inside a cluster
-use crate::blank::Fields;
+use crate::limits::ROW_CAP;
 use crate::limits::WORD_ROWS;
 use cluster::highest;
 use cluster::is_inside;
 ghost use mathlib.Core.Path.{_≡_};
-ghost use Prim.Native.Nat.{_≤_, _<_};
+ghost use Prim.Native.Nat.{_+_, _*_, _≤_};
 ghost use lib.ListN.{length};
-ghost use Rattle.laws.specs.Limits.{rowCap};
+ghost use Rattle.laws.specs.Limits.{wordValues};
 ghost use Rattle.kept.specs.Marks.{hasMark};
-ghost use Rattle.kept.specs.Fields.{resultIn, everyBit, isMarkFit};
+ghost use Rattle.kept.specs.Fields.{everyBit, isMarkFit};
 
-// Whether row `i` is marked in `row`.
-pub(crate) fn has_mark(row: Fields, i: usize) -> bool
-    requires { ⌜ i < rowCap ⌝ }
-    ensures { λ b. ⌜ b ≡ hasMark (resultIn row .members) i ⌝ }
+// Whether row `i` is marked in the two words. None past the room for rows is.
+pub fn is_marked(low: u64, high: u64, i: usize) -> bool
+    ensures { λ b. ⌜ b ≡ hasMark (low + wordValues * high) i ⌝ }
 {
     if i < WORD_ROWS {
-        return is_inside(1u64 << i, row.low);
+        return (low >> i) % 2 == 1;
     }
-    is_inside(1u64 << (i - WORD_ROWS), row.high)
+    if i < ROW_CAP {
+        return (high >> (i - WORD_ROWS)) % 2 == 1;
+    }
+    false
 }
 
 // Whether each row that a word marks is one of the first `n` and lies inside `cluster`; bit 0 of the word is row `base`.

@@ -8,7 +8,7 @@ use crate::blank::is_nothing;
 use crate::limits::COUNT_MAX;
 use crate::limits::LENGTH_MAX;
 use crate::limits::WORD_ROWS;
-use crate::marks::has_mark;
+use crate::marks::is_marked;
 use crate::marks::is_word_fit;
 use cluster::WEIGHT_MAX;
 use cluster::is_scored;
@@ -87,7 +87,7 @@ pub(crate) fn is_matched(clusters: &[u64], n: usize, i: usize, row: Fields) -> b
     if row.count == 0 {
         return is_nothing(row);
     }
-    if !has_mark(row, i) {
+    if !is_marked(row.low, row.high, i) {
         return false;
     }
     if !is_word_fit(clusters, n, 0, row.low, row.cluster) {

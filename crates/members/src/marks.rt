@@ -1,13 +1,10 @@
 // The marked rows of a table. Cites `specs/Marked.antt`, and `specs/Gathered.antt` for what is gathered.
 //     Members        the marked rows: clusters, weight, and whether each is scored
-//     is_marked      whether a row is marked
 //     members_of     the marked rows, gathered
 use cluster::is_scored;
-use kept::WORD_ROWS;
-ghost use mathlib.Core.Path.{_≡_};
-ghost use Prim.Native.Nat.{_+_, _*_, _≤_, _<_};
+use kept::is_marked;
+ghost use Prim.Native.Nat.{_+_, _*_, _≤_};
 ghost use Rattle.laws.specs.Limits.{rowCap, wordValues};
-ghost use Rattle.kept.specs.Marks.{hasMark};
 ghost use Rattle.members.specs.Gathered.{Gathered};
 
 // The marked rows: their clusters are the first `size`, ascending, and the others are zero; their weights added up; whether each is scored.
@@ -16,17 +13,6 @@ pub(crate) struct Members {
     pub(crate) size: usize,
     pub(crate) weight: i64,
     pub(crate) scored: bool,
-}
-
-// Whether row `i` is marked in the two words.
-fn is_marked(low: u64, high: u64, i: usize) -> bool
-    requires { ⌜ i < rowCap ⌝ }
-    ensures { λ b. ⌜ b ≡ hasMark (low + wordValues * high) i ⌝ }
-{
-    if i < WORD_ROWS {
-        return (low >> i) % 2 == 1;
-    }
-    (high >> (i - WORD_ROWS)) % 2 == 1
 }
 
 // The marked ones of the first `rows` rows.

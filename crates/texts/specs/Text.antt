@@ -1,14 +1,12 @@
--- Texts in the making, byte by byte. Laws: `proofs/Laws.antt`.
+-- Texts in the making. Laws: `proofs/Laws.antt`.
 --     textCap            the bytes that a text has room for: as many as the longest line has that the program prints
 --     holding l          the text of the bytes l, and zeros behind them
---     withByte t b       b at the end of t, if there is room
---     withBytes t l      the bytes of l one after another
+--     longer t l         the bytes of t, then those of l; what stands behind them is as it was
+--     withBytes t l      the bytes of t, then as many of l as there is room for
 -- Assumes nothing.
-use mathlib.Core.Bool.{cond}
-use mathlib.Core.List.{List, [], _∷_, _++_}
+use mathlib.Core.List.{List, _++_}
 use Prim.Native.Nat.{ℕ, _+_, _-_}
-use lib.Dec.{ltb}
-use lib.ListN.{length, replicate, set}
+use lib.ListN.{length, replicate, take, drop}
 use Rattle.texts.specs.declared.text.Text.{Text}
 
 abbrev pub textCap : ℕ
@@ -17,9 +15,11 @@ textCap = 172
 abbrev pub holding : List ℕ → Text
 holding l = record { bytes = l ++ replicate (textCap - length l) 0; size = length l }
 
-unfoldable pub withByte : Text → ℕ → Text
-withByte t b = cond (ltb (t .size) textCap) (record { bytes = set (t .bytes) (t .size) b; size = t .size + 1 }) t
+abbrev pub longer : Text → List ℕ → Text
+longer t l = record {
+  bytes = take (t .size) (t .bytes) ++ l ++ drop (t .size + length l) (t .bytes);
+  size = t .size + length l;
+}
 
 unfoldable pub withBytes : Text → List ℕ → Text
-withBytes t [] = t
-withBytes t (b ∷ l) = withBytes (withByte t b) l
+withBytes t l = longer t (take (textCap - t .size) l)

@@ -3,8 +3,8 @@
 //     empty           a text of no bytes
 //     add_byte        a byte at the end of a text
 ghost use mathlib.Core.Path.{_≡_};
-ghost use mathlib.Core.List.{[]};
-ghost use Rattle.texts.specs.Text.{holding, withByte};
+ghost use mathlib.Core.List.{[], _∷_};
+ghost use Rattle.texts.specs.Text.{holding, withBytes};
 
 // Bytes that a text has room for.
 const TEXT_CAP: usize = 172;
@@ -27,7 +27,7 @@ pub fn empty() -> Text
 
 // A byte at the end of a text that has room for it.
 pub(crate) fn add_byte(text: Text, byte: u8) -> Text
-    ensures { λ r. ⌜ r ≡ withByte text byte ⌝ }
+    ensures { λ r. ⌜ r ≡ withBytes text (byte ∷ []) ⌝ }
 {
     if TEXT_CAP <= text.size {
         return text;

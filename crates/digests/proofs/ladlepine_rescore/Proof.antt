@@ -19,11 +19,16 @@ Inv-loop list degree cluster weight state times t₀ done₀ t done =
 abbrev μ-loop : tie.MeasureT-loop
 μ-loop list degree cluster weight state times t₀ done₀ t done = times - done
 
--- the loop's end, from where the digest is known
+-- ---- places
+
+-- half of the table's arrays are lent to the digest
+abbrev half-lent : tie.After-digest-of Inv-loop μ-loop → tie.After-digest-of-arg7 Inv-loop μ-loop
+half-lent c = c .before .before .before .before .before .before
+
 abbrev ended : tie.After-digest-of Inv-loop μ-loop → tie.After-loop Inv-loop μ-loop
-ended c =
-    let lent = c .before .before .before .before .before .before in
-    lent .before .before .before .before .before .before .before .before
+ended c = half-lent c .before .before .before .before .before .before .before .before
+
+-- ---- needs
 
 weight-fits : (s : tie.Start Inv-loop μ-loop) → SFits w32 (s .args .weight)
 weight-fits s = s .fits .weight

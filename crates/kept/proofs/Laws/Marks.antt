@@ -5,9 +5,11 @@
 --     mark-lt, lt-of-marks     marks below n are a number below 2 ^ n
 --     mark-rest, rest-mark     the marks without one of them
 --     mark-low, mark-high      the marks of two words
+--     mark-past, mark-over     that of a row from 64 on stands in the high word, and one from 128 on has none
 --     shifted                  the mark of one row, as the code makes it
 -- Assumes nothing.
 use mathlib.Core.Path.{_≡_, refl, sym, ap, _∙_, subst}
+use mathlib.Core.Bool.{false}
 use mathlib.Core.Logic.{_⊎_, inl, inr}
 use Prim.Native.Nat.{ℕ, zero, suc, _+_, _-_, _*_, _/_, _%_, _^_, _≤_, _<_}
 use native.Mathlib.Decide.{ℕ-discrete}
@@ -23,7 +25,7 @@ use Rattle.laws.specs.Limits.{wordValues}
 use Rattle.laws.proofs.Cluster.{inside-trans, has-of-inside, rest-inside, union-rest, taxon-of-union, zero-of-inside, taxon-nonzero}
 use Rattle.laws.proofs.Digits.{has-lt, pow-has}
 use Rattle.laws.proofs.Taxa.{highest-le, highest-gt}
-use Rattle.laws.proofs.Tests.{bool-ext, eq→eqb}
+use Rattle.laws.proofs.Tests.{bool-ext, eq→eqb, T-false}
 use Rattle.kept.specs.Marks.{hasMark}
 
 -- ---- one mark
@@ -101,6 +103,14 @@ module _ (lo hi : ℕ) where
       let top : (lo + wordValues * hi) / 2 ^ 64 ≡ hi =
       add-mul-div-left lo hi (lit< tt) ∙ ap (λ (x : ℕ). x + hi) (div-eq-of-lt h) ∙ omega arith in
       ap (λ (x : ℕ). eqb (x % 2) 1) (sym (shr-shr (lo + wordValues * hi) 64 i) ∙ ap (λ (x : ℕ). x / 2 ^ i) top)
+
+  pub mark-past : (i : ℕ) → lo < wordValues → 64 ≤ i → hasMark (lo + wordValues * hi) i ≡ hasMark hi (i - 64)
+  mark-past i h k =
+      let at : i ≡ 64 + (i - 64) = omega arith in
+      ap (hasMark (lo + wordValues * hi)) at ∙ mark-high (i - 64) h
+
+  pub mark-over : (i : ℕ) → lo < wordValues → hi < wordValues → 128 ≤ i → hasMark (lo + wordValues * hi) i ≡ false
+  mark-over i h k l = mark-past i h (omega arith) ∙ T-false _ (λ m. omega (arith, mark-lt 64 hi (i - 64) k m))
 
   pub mark-low : (i : ℕ) → i < 64 → hasMark (lo + wordValues * hi) i ≡ hasMark lo i
   mark-low i h = ap (λ (x : ℕ). eqb x 1) (ap (λ (x : ℕ). x % 2) bottom ∙ add-mul-mod-self-left (lo / 2 ^ i) 2 (2 ^ (63 - i) * hi))

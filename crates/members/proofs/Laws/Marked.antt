@@ -1,5 +1,4 @@
 -- The marked rows one by one.
---     mark-past                          the mark of a row from 64 on stands in the high word
 --     marked-takes, marked-skips         one row more, marked or not
 --     mem-marked, falling-marked         which rows they are; the last stands first
 --     scored-skips, scored-takes         one row more: not marked; marked, and scored or not
@@ -10,12 +9,10 @@ use mathlib.Core.Path.{_≡_, refl, sym, ap, _∙_}
 use mathlib.Core.Bool.{Bool, true, false, _&&_}
 use mathlib.Core.List.{List, [], _∷_, map, Memᴰ·of-map}
 use mathlib.Core.List.{List·Memᴰ as Mem, List·Memᴰ·head as here, List·Memᴰ·tail as there}
-use Prim.Native.Nat.{ℕ, _+_, _-_, _*_, _≤_, _<_}
+use Prim.Native.Nat.{ℕ, _+_, _<_}
 use native.Mathlib.Numerals.{add-one}
-use native.Mathlib.Omega.{arith}
 use lib.Dec.{T}
 use lib.ListN.{getD}
-use Rattle.laws.specs.Limits.{wordValues}
 use Rattle.laws.specs.Lists.{every, Falling, places}
 use Rattle.laws.specs.State.{scored}
 use Rattle.laws.proofs.Appended.{mem-of-reverse}
@@ -23,14 +20,7 @@ use Rattle.laws.proofs.Down.{mem-down, down-falling}
 use Rattle.laws.proofs.Falling.{in-turn-keep}
 use Rattle.laws.proofs.Keep.{mem-of-keep}
 use Rattle.kept.specs.Marks.{hasMark}
-use Rattle.kept.proofs.Laws.Marks.{mark-high}
 use Rattle.members.specs.Marked.{markedTo, membersTo, scoredTo}
-
--- ---- the marks of the high word
-pub mark-past : (lo hi i : ℕ) → lo < wordValues → 64 ≤ i → hasMark (lo + wordValues * hi) i ≡ hasMark hi (i - 64)
-mark-past lo hi i h k =
-    let at : i ≡ 64 + (i - 64) = omega arith in
-    ap (hasMark (lo + wordValues * hi)) at ∙ mark-high lo hi (i - 64) h
 
 -- ---- the marked rows
 module _ (m : ℕ) where

@@ -49,13 +49,13 @@ returns : tie.Need-returns
 returns c = rw (eq-eqb _ _ (c .before .if1 .taken)) (c .is-nothing .ensures)
 
 returns-2 : tie.Need-returns-2
-returns-2 c = sym (live (c .before .before) ∙ rw (failed (c .before .has-mark .ensures) (c .if2 .taken)))
+returns-2 c = sym (live (c .before .before) ∙ rw (failed (c .before .is-marked .ensures) (c .if2 .taken)))
 
 returns-3 : tie.Need-returns-3
 returns-3 c =
     let own = c .before .before in
     sym (live (own .before .before)
-    ∙ rw (passed (own .before .has-mark .ensures) (own .if2 .left), failed (c .before .is-word-fit .ensures) (c .if3 .taken)))
+    ∙ rw (passed (own .before .is-marked .ensures) (own .if2 .left), failed (c .before .is-word-fit .ensures) (c .if3 .taken)))
 
 returns-4 : tie.Need-returns-4
 returns-4 c =
@@ -63,7 +63,7 @@ returns-4 c =
     let own = low .before .before in
     sym (live (own .before .before)
     ∙ rw (
-      passed (own .before .has-mark .ensures) (own .if2 .left),
+      passed (own .before .is-marked .ensures) (own .if2 .left),
       passed (low .before .is-word-fit .ensures) (low .if3 .left),
       failed (c .before .is-word-fit2 .ensures) (c .if4 .taken),
     ))
@@ -88,7 +88,7 @@ returns-5 c =
     light
     ∙ sym (live (own .before .before)
     ∙ rw (
-      passed (own .before .has-mark .ensures) (own .if2 .left),
+      passed (own .before .is-marked .ensures) (own .if2 .left),
       passed (low .before .is-word-fit .ensures) (low .if3 .left),
       passed (high .before .is-word-fit2 .ensures) (high .if4 .left),
     ))

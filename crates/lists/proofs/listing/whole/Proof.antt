@@ -7,7 +7,16 @@ use Rattle.lists.proofs.Laws.Listing.{InOrder, whole-bad, whole-repeate
 use Rattle.lists.proofs.listing.whole.Statement.{statement}
 use Rattle.lists.proofs.listing.whole.Tie as tie
 
--- past the first branch all records are read
+-- ---- places
+
+abbrev start : tie.After-ordered → tie.Start
+start c = c .before .before .before .before .before .before
+
+-- past the second branch all are placed
+abbrev placed : tie.After-arranged-arg4 → tie.Else2
+placed c = c .before .before .before .before .before .before
+
+-- past the first all records are read
 in-order : (c : tie.After-ordered)
     → let at-read = c .before .before .before .before in
     let start = at-read .before .before in
@@ -16,12 +25,7 @@ in-order c =
     let at-whole = c .before .before .before in
     record { read = at-whole .before .read-all .ensures; whole = at-whole .if1 .left; order = c .ordered .ensures }
 
-abbrev start : tie.After-ordered → tie.Start
-start c = c .before .before .before .before .before .before
-
--- past the second all are placed
-abbrev placed : tie.After-arranged-arg4 → tie.Else2
-placed c = c .before .before .before .before .before .before
+-- ---- needs
 
 returns : tie.Need-returns
 returns c =

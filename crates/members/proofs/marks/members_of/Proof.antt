@@ -23,19 +23,30 @@ Inv-loop clusters weights states low high rows members₀ i₀ members i =
 abbrev μ-loop : tie.MeasureT-loop
 μ-loop clusters weights states low high rows members₀ i₀ members i = rows - i
 
+-- ---- places
+
+abbrev turn : tie.Then1 Inv-loop μ-loop → tie.In-loop Inv-loop μ-loop
+turn c = c .before .before
+
+-- the row is marked, from where its weight is known
+abbrev marked : tie.After-members2 Inv-loop μ-loop → tie.Then1 Inv-loop μ-loop
+marked c = c .before .before
+
+-- ---- needs
+
 loop-holds : tie.Need-loop-holds Inv-loop μ-loop
 loop-holds c = (omega arith, gathered-none)
 
 cast-members : tie.Need-cast-members Inv-loop μ-loop
 cast-members c =
-    let at-loop = c .before .before .before .before .before in
+    let at-loop = turn (marked c) .before in
     cast-fits (getD (now (at-loop .before .args .weights)) (at-loop .loop .i) (pos 0)) (c .members2 .given)
 
 add-members-2 : tie.Need-add-members-2 Inv-loop μ-loop
 add-members-2 c =
-    let marked = c .before .before .before in
-    let at-loop = marked .before .before .before in
-    let mark = sym (marked .before .is-marked .ensures) ∙ marked .if1 .taken in
+    let row = marked (c .before) in
+    let at-loop = turn row .before in
+    let mark = sym (row .before .is-marked .ensures) ∙ row .if1 .taken in
     added-fits (at-loop .loop .inv .1) (omega arith) mark (c .before .members2 .given)
 
 loop-again : tie.Need-loop-again Inv-loop μ-loop

@@ -20,16 +20,21 @@ Inv-loop xs m count₀ i₀ count i = CountFrom (λ (k : ℕ). strict k m && not
 abbrev μ-loop : tie.MeasureT-loop
 μ-loop xs m count₀ i₀ count i = length xs - i
 
+-- ---- places
+
+abbrev turn : tie.After-is-strict Inv-loop μ-loop → tie.In-loop Inv-loop μ-loop
+turn c = c .before .before
+
+-- ---- needs
+
 add-count : tie.Need-add-count Inv-loop μ-loop
-add-count c =
-    let turn = c .before .before .before .before .before in
-    omega (arith, count-le (turn .before .loop .inv))
+add-count c = omega (arith, count-le (turn (c .before .before .before) .before .loop .inv))
 
 loop-again : tie.Need-loop-again Inv-loop μ-loop
 loop-again c =
-    let turn = c .before .before .before in
-    let s = turn .before .loop .inv in
-    let h = turn .loop-test .taken in
+    let in-loop = turn (c .before) in
+    let s = in-loop .before .loop .inv in
+    let h = in-loop .loop-test .taken in
     let below = sym (c .before .is-strict .ensures) in
     let pair : Bool → Bool → Bool = λ a b. a && not b in
     ⊎-elim

@@ -1,32 +1,9 @@
 -- `probe::layout::write_longs` is safe and ends: the bytes keep their number, and the measure is the rows left. Assumes nothing.
-use mathlib.Core.Path.{_≡_}
-use Prim.Native.Nat.{_≤_, _-_}
-use native.Mathlib.Omega.{arith}
-use lib.ListN.{length}
+use borrow.Author.Needs.{needs}
+use Rattle.probe.proofs.Answers.{twelve}
+use Rattle.probe.proofs.Columns.{Kept, left}
 use Rattle.probe.proofs.layout.write_longs.Statement.{statement}
 use Rattle.probe.proofs.layout.write_longs.Tie as tie
 
-abbrev Inv-loop : tie.InvT-loop
-Inv-loop column bytes₀ i₀ bytes i = (i ≤ 128) × (length bytes ≡ 1024)
-
-abbrev μ-loop : tie.MeasureT-loop
-μ-loop column bytes₀ i₀ bytes i = 128 - i
-
 pub write-longs-spec : {M : Type 1} → statement M
-write-longs-spec =
-    tie.close
-    (tie.spec
-    Inv-loop
-    μ-loop
-    (λ c. omega arith)
-    (λ c. omega arith)
-    (λ c. omega arith)
-    (λ c. omega arith)
-    (λ c. omega arith)
-    (λ c κs. omega arith)
-    (λ c. omega arith)
-    (λ c. omega arith)
-    (λ c. omega arith)
-    (λ c. omega arith)
-    (λ c κs. tt)
-    (λ c. tt))
+write-longs-spec = tie.close (twelve (tie.spec (λ column bytes₀ i₀. Kept 1024) (λ column bytes₀ i₀ bytes. left)) (search needs))

@@ -1,6 +1,7 @@
 -- `probe::tables::tell_rescores` is safe and ends: the rescorings made are at most `count`, and the measure is those left. Assumes nothing.
 use Prim.Native.Nat.{_≤_, _-_}
-use native.Mathlib.Omega.{arith}
+use borrow.Author.Needs.{needs}
+use Rattle.probe.proofs.Answers.{eight}
 use Rattle.probe.proofs.tables.tell_rescores.Statement.{statement}
 use Rattle.probe.proofs.tables.tell_rescores.Tie as tie
 
@@ -11,16 +12,4 @@ abbrev μ-loop : tie.MeasureT-loop
 μ-loop scores count t₀ i₀ t i = count - i
 
 pub tell-rescores-spec : {M : Type 1} → statement M
-tell-rescores-spec =
-    tie.close
-    (tie.spec
-    Inv-loop
-    μ-loop
-    (λ c. omega arith)
-    (λ c. omega arith)
-    (λ c κs. omega arith)
-    (λ c κs. tt)
-    (λ c. omega arith)
-    (λ c. omega arith)
-    (λ c. omega arith)
-    (λ c. tt))
+tell-rescores-spec = tie.close (eight (tie.spec Inv-loop μ-loop) (search needs))

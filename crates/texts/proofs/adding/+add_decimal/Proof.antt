@@ -1,13 +1,14 @@
 -- `texts::adding::add_decimal` meets its contract: below ten one figure is added, else those of a tenth of the number and then the last.
 -- The measure is the number. Assumes nothing.
 use mathlib.Core.Path.{ap, _∙_}
+use mathlib.Core.List.{[], _∷_}
 use Prim.Native.Nat.{ℕ, _%_, _<_}
 use native.Mathlib.Omega.{arith}
 use borrow.Fn.Kinds.{In}
 use borrow.Fn.PlainCycle.{Measures, is, falls, and}
 use Rattle.shapes.specs.Decimal.{figure}
 use Rattle.texts.specs.declared.text.Text.{Text}
-use Rattle.texts.specs.Text.{withByte}
+use Rattle.texts.specs.Text.{withBytes}
 use Rattle.texts.proofs.Laws.{with-low, with-high}
 use Rattle.texts.proofs.adding.add_decimal.Reads as reads
 use Rattle.texts.proofs.adding.add_decimal.Kinds as kinds
@@ -40,7 +41,7 @@ module _ (t : ℕ) where
       let tenth = c .before in
       let n = tenth .before .before .args .n in
       c .add-byte2 .ensures
-      ∙ ap (λ (x : Text). withByte x (figure (n % 10))) (tenth .add-decimal .ensures)
+      ∙ ap (λ (x : Text). withBytes x (figure (n % 10) ∷ [])) (tenth .add-decimal .ensures)
       ∙ with-high _ n (tenth .before .if1 .left)
 
 pub +add-decimal-spec : {M : Type 1} → statement M
