@@ -1,6 +1,4 @@
 -- What is true of records and their operations (document 01, "The record", "What is sent back", "Strict marking").
---     value-only            one outcome where a promise is an equation to a value: those of `taxa`, `is_scored`, `broken_rule`, `is_kept`,
---                           `number_of` and `position_of`
 --     read-only             one outcome of `read_record`: the answer and the record
 --     write-only            one outcome of `write_record`: the answer and every byte of the room
 --     kept-iff, score-iff   no rule is broken exactly where the paper's sentences hold (`Keeps`, `KeepsScore` of `specs/Rule.antt`)
@@ -8,7 +6,8 @@
 --     write-accepts-iff     and a record, where the room is long enough too
 --     read-write-back       what was written, read again, is the same record
 --     write-read-back       accepted bytes, read and written again, are the same bytes
--- The numbers of the refusals are pinned in `Laws/Refusal.antt`.
+-- One outcome of the other operations, whose promises are equations to a value: `value-only` of the crate `laws`. The numbers of the
+-- refusals are pinned in the crate `answers`.
 -- Assumes nothing.
 use mathlib.Core.Path.{_≡_, refl, sym, ap, ap₂, _∙_}
 use mathlib.Core.Logic.{_↔_}
@@ -23,26 +22,22 @@ use Rattle.laws.proofs.Tests.{T-and, T-true, T-of-not, true-T}
 use Rattle.laws.proofs.Width.{narrow-facts}
 use Rattle.cluster.specs.declared.reading.Reading.{Reading}
 use Rattle.cluster.specs.declared.record.Record.{Record}
-use Rattle.cluster.specs.declared.refusal.Answer.{Answer}
-use Rattle.cluster.specs.declared.refusal.Answer.the-variants.{Done}
+use Rattle.answers.specs.declared.refusal.Answer.{Answer}
+use Rattle.answers.specs.declared.refusal.Answer.the-variants.{Done}
 use Rattle.cluster.specs.Bytes.{byteValues}
-use Rattle.cluster.specs.Outcome.{Outcome, outcomeOf}
+use Rattle.answers.specs.Outcome.{Outcome, outcomeOf}
 use Rattle.cluster.specs.Record.{recordBytes, rowOf, rowIn, recordOf, hasSpare, bytesOf}
 use Rattle.cluster.specs.Rule.{brokenRule, isKept, isScore, keepsRules, Keeps, KeepsScore}
-use Rattle.cluster.specs.Reasons.{NoneApplies}
+use Rattle.answers.specs.Reasons.{NoneApplies}
 use Rattle.cluster.specs.Reading.{ruleOf, zeroRecord, readingOf, readReasons, readRecord}
 use Rattle.cluster.specs.Writing.{writeReasons, writeRecord}
-use Rattle.cluster.proofs.Laws.Outcome.{outcome-only, accepts-iff, written-accepts-iff}
+use Rattle.answers.proofs.Laws.Outcome.{outcome-only, accepts-iff, written-accepts-iff}
 use Rattle.cluster.proofs.Laws.Record.{recordOf-bytes, bytesOf-rule, bytesOf-row}
 use Rattle.cluster.proofs.Laws.Rule.{kept→keeps, keeps→kept, score→keeps, keeps→score}
 use Rattle.cluster.proofs.Laws.Reading.{readRecord-is, readRecord-kept}
 use Rattle.cluster.proofs.Laws.Writing.{writeRecord-is, writeRecord-kept}
 
 -- ---- two outcomes that a promise allows are equal
-
--- a promise that is an equation to a value
-pub value-only : {A : Type 0} {v : A} (x y : A) → x ≡ v → y ≡ v → x ≡ y
-value-only x y p q = p ∙ sym q
 
 pub read-only : (l : List ℕ) (x y : Reading) → readingOf x ≡ readRecord l → readingOf y ≡ readRecord l → x ≡ y
 read-only l x y p q =

@@ -14,10 +14,10 @@ use lib.ListN.{length}
 use Rattle.laws.specs.Limits.{Width, narrow}
 use Rattle.cluster.specs.declared.reading.Reading.{Reading}
 use Rattle.cluster.specs.declared.record.Record.{Record}
-use Rattle.cluster.specs.declared.refusal.Refusal.the-variants.{WrongLength, BadRecord}
+use Rattle.answers.specs.declared.refusal.Refusal.the-variants.{WrongLength, BadRecord}
 use Rattle.cluster.specs.declared.rule.Rule.{Rule}
-use Rattle.cluster.specs.Outcome.{Outcome, outcomeOf, ended}
-use Rattle.cluster.specs.Reasons.{Reason, when, firstReason}
+use Rattle.answers.specs.Outcome.{Outcome, outcomeOf, ended}
+use Rattle.answers.specs.Reasons.{Reason, when, firstReason}
 use Rattle.cluster.specs.Record.{recordBytes, rowOf, recordOf, hasSpare}
 use Rattle.cluster.specs.Rule.{brokenRule, isKept}
 

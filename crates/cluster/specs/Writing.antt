@@ -7,9 +7,9 @@ use mathlib.Core.List.{List, [], _∷_}
 use Prim.Native.Nat.{ℕ}
 use Rattle.laws.specs.Limits.{narrow}
 use Rattle.cluster.specs.declared.record.Record.{Record}
-use Rattle.cluster.specs.declared.refusal.Refusal.the-variants.{BadRecord}
-use Rattle.cluster.specs.Outcome.{Outcome, written}
-use Rattle.cluster.specs.Reasons.{Reason, when}
+use Rattle.answers.specs.declared.refusal.Refusal.the-variants.{BadRecord}
+use Rattle.answers.specs.Outcome.{Outcome, written}
+use Rattle.answers.specs.Reasons.{Reason, when}
 use Rattle.cluster.specs.Record.{rowIn, bytesOf}
 use Rattle.cluster.specs.Rule.{brokenRule, isKept}
 

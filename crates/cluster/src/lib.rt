@@ -1,7 +1,6 @@
-// Clusters and their records: the state of a record, its twelve bytes, its rules, and the refusals of every operation. Nothing public has a
-// `requires`, and each `ensures` is one equation to a definition of `specs/`.
+// Clusters and their records: the state of a record, its twelve bytes and its rules. Nothing public has a `requires`,
+// and each `ensures` is one equation to a definition of `specs/`.
 //     is_scored                                   a state
-//     Refusal, Answer, number_of, position_of     what is sent back
 //     Record                                      a record
 //     Rule, broken_rule, is_kept, is_score        the record rules
 //     Reading, read_record, write_record          twelve bytes to a record, and back
@@ -11,7 +10,6 @@
 mod bytes;
 mod reading;
 mod record;
-mod refusal;
 mod rule;
 mod state;
 mod writing;
@@ -20,10 +18,6 @@ pub use reading::Reading;
 pub use reading::read_record;
 pub use record::RECORD_BYTES;
 pub use record::Record;
-pub use refusal::Answer;
-pub use refusal::Refusal;
-pub use refusal::number_of;
-pub use refusal::position_of;
 pub use rule::Rule;
 pub use rule::WEIGHT_MAX;
 pub use rule::broken_rule;

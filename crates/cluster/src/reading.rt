@@ -6,12 +6,12 @@ use crate::record::Record;
 use crate::record::has_spare;
 use crate::record::record_of;
 use crate::record::rule_of;
-use crate::refusal::Answer;
-use crate::refusal::Refusal;
 use crate::rule::is_kept;
+use answers::Answer;
+use answers::Refusal;
 ghost use mathlib.Core.Path.{_≡_};
-ghost use Rattle.cluster.specs.declared.refusal.Answer.the-variants.{Refused};
-ghost use Rattle.cluster.specs.Outcome.{outcomeOf};
+ghost use Rattle.answers.specs.declared.refusal.Answer.the-variants.{Refused};
+ghost use Rattle.answers.specs.Outcome.{outcomeOf};
 ghost use Rattle.cluster.specs.Reading.{readingOf, zeroRecord, readRecord};
 
 // What reading one record gives: the record is all zero where the answer is a refusal.

@@ -4,11 +4,11 @@ use crate::record::RECORD_BYTES;
 use crate::record::Record;
 use crate::record::put_record;
 use crate::record::rule_of;
-use crate::refusal::Answer;
-use crate::refusal::Refusal;
 use crate::rule::is_kept;
+use answers::Answer;
+use answers::Refusal;
 ghost use mathlib.Core.Path.{_≡_};
-ghost use Rattle.cluster.specs.Outcome.{outcomeOf};
+ghost use Rattle.answers.specs.Outcome.{outcomeOf};
 ghost use Rattle.cluster.specs.Writing.{writeRecord};
 
 // A record that keeps the rules, written into the first twelve bytes of a room; the answer tells twelve. Refused 5 for a record

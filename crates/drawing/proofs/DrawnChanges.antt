@@ -13,9 +13,9 @@ use lib.Dec.{T}
 use Rattle.laws.specs.Limits.{Width, isDegree}
 use Rattle.laws.specs.Row.{Row}
 use Rattle.laws.specs.Widths.{WidthFacts}
-use Rattle.cluster.specs.declared.refusal.Refusal.the-variants.{NoTree}
-use Rattle.cluster.specs.Outcome.{Outcome}
-use Rattle.cluster.specs.Reasons.{firstReason}
+use Rattle.answers.specs.declared.refusal.Refusal.the-variants.{NoTree}
+use Rattle.answers.specs.Outcome.{Outcome}
+use Rattle.answers.specs.Reasons.{firstReason}
 use Rattle.lists.specs.Records.{rowsOf}
 use Rattle.trees.specs.Heaviest.{firstHeaviest}
 use Rattle.shapes.specs.Drawn.{ascending, textOf}

@@ -21,13 +21,13 @@ use Rattle.laws.specs.Limits.{Width}
 use Rattle.laws.specs.Row.{Row}
 use Rattle.laws.specs.Widths.{WidthFacts}
 use Rattle.laws.proofs.Tests.{T-true, T-false}
-use Rattle.cluster.specs.declared.refusal.Answer.the-variants.{Done, Refused}
-use Rattle.cluster.specs.declared.refusal.Refusal.{Refusal}
-use Rattle.cluster.specs.declared.refusal.Refusal.the-variants.{NoTree, Unfit}
-use Rattle.cluster.specs.Refusal.{numberOf}
-use Rattle.cluster.specs.Reasons.{firstReason}
-use Rattle.cluster.specs.Outcome.{Outcome, outcomeOf, written}
-use Rattle.cluster.proofs.Laws.Outcome.{written-whole}
+use Rattle.answers.specs.declared.refusal.Answer.the-variants.{Done, Refused}
+use Rattle.answers.specs.declared.refusal.Refusal.{Refusal}
+use Rattle.answers.specs.declared.refusal.Refusal.the-variants.{NoTree, Unfit}
+use Rattle.answers.specs.Refusal.{numberOf}
+use Rattle.answers.specs.Reasons.{firstReason}
+use Rattle.answers.specs.Outcome.{Outcome, outcomeOf, written}
+use Rattle.answers.proofs.Laws.Outcome.{written-whole}
 use Rattle.trees.specs.Heaviest.{firstHeaviest}
 use Rattle.trees.proofs.Formula.Rows.{givenOf}
 use Rattle.trees.proofs.Theorems.{none-iff}

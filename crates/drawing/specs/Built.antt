@@ -12,9 +12,9 @@ use Prim.Native.Nat.{ℕ, _-_, _*_}
 use Rattle.laws.specs.Cluster.{unionOf}
 use Rattle.laws.specs.Limits.{Width}
 use Rattle.laws.specs.Row.{Row}
-use Rattle.cluster.specs.declared.refusal.Answer.the-variants.{Refused}
-use Rattle.cluster.specs.declared.refusal.Refusal.the-variants.{NoTree}
-use Rattle.cluster.specs.Outcome.{Outcome, outcomeOf, written}
+use Rattle.answers.specs.declared.refusal.Answer.the-variants.{Refused}
+use Rattle.answers.specs.declared.refusal.Refusal.the-variants.{NoTree}
+use Rattle.answers.specs.Outcome.{Outcome, outcomeOf, written}
 use Rattle.trees.specs.Rows.{clustersOf, scoredIn}
 use Rattle.trees.specs.Tree.{treesOn}
 use Rattle.trees.specs.Built.{builtTable}

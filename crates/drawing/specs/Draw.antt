@@ -14,8 +14,8 @@ use mathlib.Core.Option.{none}
 use Prim.Native.Nat.{ℕ}
 use lib.ListN.{length}
 use Rattle.laws.specs.Limits.{Width}
-use Rattle.cluster.specs.Outcome.{Outcome, outcomeOf, ended, written}
-use Rattle.cluster.specs.Reasons.{firstReason}
+use Rattle.answers.specs.Outcome.{Outcome, outcomeOf, ended, written}
+use Rattle.answers.specs.Reasons.{firstReason}
 use Rattle.shapes.specs.Drawn.{textOf}
 use Rattle.texts.specs.declared.text.Text.{Text}
 use Rattle.texts.specs.Text.{holding}

@@ -5,8 +5,8 @@
 //     drawn_text       the text, by value
 //     text             the text, into a room
 use crate::writing::text_of;
-use cluster::Answer;
-use cluster::Refusal;
+use answers::Answer;
+use answers::Refusal;
 use kept::Table;
 use members::drawn_tree;
 use texts::Text;
@@ -17,7 +17,7 @@ ghost use mathlib.Core.List.{_++_};
 ghost use Prim.Native.Nat.{_≤_};
 ghost use lib.ListN.{length, drop};
 ghost use Rattle.laws.specs.Limits.{narrow};
-ghost use Rattle.cluster.specs.Outcome.{outcomeOf};
+ghost use Rattle.answers.specs.Outcome.{outcomeOf};
 ghost use Rattle.drawing.specs.Draw.{drawTree, drawnTextOf, drawnText, drawText};
 ghost use Rattle.drawing.specs.Gathered.{Narrow};
 

@@ -23,11 +23,11 @@ use Rattle.laws.specs.Limits.{narrow}
 use Rattle.laws.specs.Lists.{every}
 use Rattle.laws.specs.Row.{Row}
 use Rattle.laws.specs.State.{scored}
-use Rattle.cluster.specs.declared.refusal.Refusal.{Refusal}
-use Rattle.cluster.specs.declared.refusal.Refusal.the-variants.{NoTree}
+use Rattle.answers.specs.declared.refusal.Refusal.{Refusal}
+use Rattle.answers.specs.declared.refusal.Refusal.the-variants.{NoTree}
 use Rattle.cluster.specs.Bytes.{byteValues}
-use Rattle.cluster.specs.Reasons.{firstReason}
-use Rattle.cluster.specs.Refusal.{numberOf}
+use Rattle.answers.specs.Reasons.{firstReason}
+use Rattle.answers.specs.Refusal.{numberOf}
 use Rattle.cluster.specs.Rule.{brokenRule, isScore}
 use Rattle.lists.specs.Records.{rowsOf}
 use Rattle.trees.specs.Tree.{isTree}

@@ -14,13 +14,13 @@ use Rattle.laws.specs.Lists.{every}
 use Rattle.laws.specs.Row.{Row}
 use Rattle.laws.proofs.Tests.{T-and, T-true, T-false}
 use Rattle.laws.proofs.Width.{narrow-facts}
-use Rattle.cluster.specs.declared.refusal.Answer.the-variants.{Done}
-use Rattle.cluster.specs.declared.refusal.Refusal.{Refusal}
-use Rattle.cluster.specs.declared.refusal.Refusal.the-variants.{NoTree}
+use Rattle.answers.specs.declared.refusal.Answer.the-variants.{Done}
+use Rattle.answers.specs.declared.refusal.Refusal.{Refusal}
+use Rattle.answers.specs.declared.refusal.Refusal.the-variants.{NoTree}
 use Rattle.cluster.specs.Bytes.{byteValues}
-use Rattle.cluster.specs.Outcome.{outcomeOf, written}
-use Rattle.cluster.specs.Reasons.{firstReason}
-use Rattle.cluster.specs.Refusal.{numberOf}
+use Rattle.answers.specs.Outcome.{outcomeOf, written}
+use Rattle.answers.specs.Reasons.{firstReason}
+use Rattle.answers.specs.Refusal.{numberOf}
 use Rattle.cluster.specs.Rule.{isScore}
 use Rattle.lists.specs.Accepted.{Bytes}
 use Rattle.shapes.specs.Characters.{characters}

@@ -13,11 +13,11 @@ use Rattle.laws.specs.Lists.{every}
 use Rattle.laws.proofs.Keep.{every→}
 use Rattle.laws.proofs.Tests.{T-and, T-of-not, true-T}
 use Rattle.laws.proofs.Width.{narrow-facts}
-use Rattle.cluster.specs.declared.refusal.Answer.the-variants.{Done}
-use Rattle.cluster.specs.Outcome.{Outcome}
-use Rattle.cluster.specs.Reasons.{firstReason, NoneApplies}
-use Rattle.cluster.specs.Refusal.{sentOf}
-use Rattle.cluster.proofs.Laws.Reasons.{none-iff}
+use Rattle.answers.specs.declared.refusal.Answer.the-variants.{Done}
+use Rattle.answers.specs.Outcome.{Outcome}
+use Rattle.answers.specs.Reasons.{firstReason, NoneApplies}
+use Rattle.answers.specs.Refusal.{sentOf}
+use Rattle.answers.proofs.Laws.Reasons.{none-iff}
 use Rattle.lists.specs.Accepted.{Bytes, Accepted}
 use Rattle.lists.specs.Records.{rowsOf}
 use Rattle.lists.proofs.Theorems.{accepted-iff, accepted-facts}

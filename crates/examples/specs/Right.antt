@@ -15,10 +15,10 @@ use lib.Dec.{T}
 use Rattle.laws.specs.Limits.{narrow}
 use Rattle.laws.specs.Lists.{elem, bind}
 use Rattle.laws.specs.Row.{Row}
-use Rattle.cluster.specs.declared.refusal.Answer.the-variants.{Done}
-use Rattle.cluster.specs.Outcome.{Outcome, outcomeOf}
+use Rattle.answers.specs.declared.refusal.Answer.the-variants.{Done}
+use Rattle.answers.specs.Outcome.{Outcome, outcomeOf}
 use Rattle.cluster.specs.Record.{bytesOf}
-use Rattle.cluster.specs.Refusal.{sentOf}
+use Rattle.answers.specs.Refusal.{sentOf}
 use Rattle.kept.specs.declared.table.Table.{Table}
 use Rattle.kept.specs.View.{rowAt, entryAt}
 use Rattle.table.specs.Build.{buildTable}

@@ -12,7 +12,7 @@ use mathlib.Core.Option.{Option, none, some}
 use mathlib.Core.List.{List, []}
 use Prim.Native.Nat.{ℕ}
 use Rattle.laws.specs.Limits.{narrow}
-use Rattle.cluster.specs.Outcome.{Outcome, written}
+use Rattle.answers.specs.Outcome.{Outcome, written}
 use Rattle.trees.specs.Result.{Result}
 use Rattle.shapes.specs.Characters.{characters}
 use Rattle.kept.specs.declared.table.Table.{Table}

@@ -48,3 +48,5 @@ pub mod State
 pub mod Column
 -- what is asked of a width holds of the paper's own
 pub mod Width
+-- one outcome where a promise is an equation to a value
+pub mod Only

@@ -26,17 +26,17 @@ use Rattle.laws.specs.Lists.{Falling}
 use Rattle.laws.specs.Row.{Row}
 use Rattle.laws.specs.Widths.{WidthFacts}
 use Rattle.laws.proofs.Tests.{T-of-not}
-use Rattle.cluster.specs.declared.refusal.Answer.{Answer}
-use Rattle.cluster.specs.declared.refusal.Answer.the-variants.{Done, Refused}
-use Rattle.cluster.specs.declared.refusal.Refusal.{Refusal}
-use Rattle.cluster.specs.Outcome.{Outcome, outcomeOf}
-use Rattle.cluster.specs.Reasons.{First, NoneApplies}
-use Rattle.cluster.specs.Refusal.{sentOf}
+use Rattle.answers.specs.declared.refusal.Answer.{Answer}
+use Rattle.answers.specs.declared.refusal.Answer.the-variants.{Done, Refused}
+use Rattle.answers.specs.declared.refusal.Refusal.{Refusal}
+use Rattle.answers.specs.Outcome.{Outcome, outcomeOf}
+use Rattle.answers.specs.Reasons.{First, NoneApplies}
+use Rattle.answers.specs.Refusal.{sentOf}
 use Rattle.cluster.specs.Rule.{keepsRules}
-use Rattle.cluster.proofs.Laws.Outcome.{outcome-only}
-use Rattle.cluster.proofs.Laws.Outcome as outcome
-use Rattle.cluster.proofs.Laws.Reasons.{none-iff}
-use Rattle.cluster.proofs.Laws.Refusal.{sentOf-inj}
+use Rattle.answers.proofs.Laws.Outcome.{outcome-only}
+use Rattle.answers.proofs.Laws.Outcome as outcome
+use Rattle.answers.proofs.Laws.Reasons.{none-iff}
+use Rattle.answers.proofs.Laws.Refusal.{sentOf-inj}
 use Rattle.trees.specs.Rows.{clustersOf, RowFacts}
 use Rattle.lists.specs.declared.listing.Listing.{Listing}
 use Rattle.lists.specs.Records.{recordsIn, listedAt, rowsOf}

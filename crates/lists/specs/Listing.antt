@@ -16,9 +16,9 @@ use lib.ListN.{length}
 use Rattle.laws.specs.Column.{column}
 use Rattle.laws.specs.Limits.{Width}
 use Rattle.laws.specs.Row.{Row}
-use Rattle.cluster.specs.declared.refusal.Refusal.the-variants.{NoBytes, WrongLength, TooLong, BadRecord, Repeated}
-use Rattle.cluster.specs.Outcome.{Outcome, outcomeOf, ended}
-use Rattle.cluster.specs.Reasons.{Reason, when, firstReason}
+use Rattle.answers.specs.declared.refusal.Refusal.the-variants.{NoBytes, WrongLength, TooLong, BadRecord, Repeated}
+use Rattle.answers.specs.Outcome.{Outcome, outcomeOf, ended}
+use Rattle.answers.specs.Reasons.{Reason, when, firstReason}
 use Rattle.lists.specs.declared.listing.Listing.{Listing}
 use Rattle.lists.specs.Records.{recordsIn, rowsOf, firstBad, firstRepeat}
 

@@ -7,15 +7,15 @@
 //     check_list     why a list is refused
 use crate::order::ordered;
 use crate::records::read_all;
-use cluster::Answer;
+use answers::Answer;
+use answers::Refusal;
 use cluster::RECORD_BYTES;
-use cluster::Refusal;
 ghost use mathlib.Core.Path.{_≡_};
 ghost use mathlib.Core.List.{[]};
 ghost use Rattle.laws.specs.Limits.{narrow};
-ghost use Rattle.cluster.specs.declared.refusal.Answer.the-variants.{Done, Refused};
-ghost use Rattle.cluster.specs.Outcome.{outcomeOf};
-ghost use Rattle.cluster.specs.Refusal.{sentOf};
+ghost use Rattle.answers.specs.declared.refusal.Answer.the-variants.{Done, Refused};
+ghost use Rattle.answers.specs.Outcome.{outcomeOf};
+ghost use Rattle.answers.specs.Refusal.{sentOf};
 ghost use Rattle.lists.specs.Listing.{listed, listingOf, recordReasons, listEnded, readList};
 ghost use Rattle.lists.specs.Read.{Whole, rowsFrom};
 ghost use Rattle.lists.specs.Order.{Within, through};

@@ -3,7 +3,7 @@
 //     is_done       whether an answer is a success
 //     reading_at    one record of a list
 //     read_all      the records of a list, up to the first that breaks the rules
-use cluster::Answer;
+use answers::Answer;
 use cluster::RECORD_BYTES;
 use cluster::Reading;
 use cluster::read_record;

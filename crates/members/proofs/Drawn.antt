@@ -13,13 +13,13 @@ use lib.ListN.{take}
 use Rattle.laws.specs.Limits.{Width}
 use Rattle.laws.specs.Widths.{WidthFacts}
 use Rattle.laws.proofs.Tests.{T-and, T-true, T-of-not}
-use Rattle.cluster.specs.declared.refusal.Answer.{Answer}
-use Rattle.cluster.specs.declared.refusal.Answer.the-variants.{Done, Refused}
-use Rattle.cluster.specs.declared.refusal.Refusal.{Refusal}
-use Rattle.cluster.specs.Outcome.{Outcome, outcomeOf, ended}
-use Rattle.cluster.specs.Reasons.{firstReason}
-use Rattle.cluster.proofs.Laws.Reasons.{none-iff}
-use Rattle.cluster.proofs.Laws.Outcome.{outcome-only, ended-refused, ended-done}
+use Rattle.answers.specs.declared.refusal.Answer.{Answer}
+use Rattle.answers.specs.declared.refusal.Answer.the-variants.{Done, Refused}
+use Rattle.answers.specs.declared.refusal.Refusal.{Refusal}
+use Rattle.answers.specs.Outcome.{Outcome, outcomeOf, ended}
+use Rattle.answers.specs.Reasons.{firstReason}
+use Rattle.answers.proofs.Laws.Reasons.{none-iff}
+use Rattle.answers.proofs.Laws.Outcome.{outcome-only, ended-refused, ended-done}
 use Rattle.kept.specs.declared.table.Table.{Table}
 use Rattle.kept.specs.Fit.{isFit}
 use Rattle.kept.specs.Rows.{leafSet}

@@ -20,9 +20,9 @@ use lib.Dec.{eqb, ltb}
 use lib.ListN.{length}
 use Rattle.laws.specs.Limits.{Width}
 use Rattle.trees.specs.Tree.{isTree}
-use Rattle.cluster.specs.declared.refusal.Refusal.the-variants.{NoTree, Unfit}
-use Rattle.cluster.specs.Outcome.{Outcome, outcomeOf, ended}
-use Rattle.cluster.specs.Reasons.{Reason, when, firstReason}
+use Rattle.answers.specs.declared.refusal.Refusal.the-variants.{NoTree, Unfit}
+use Rattle.answers.specs.Outcome.{Outcome, outcomeOf, ended}
+use Rattle.answers.specs.Reasons.{Reason, when, firstReason}
 use Rattle.kept.specs.declared.table.Table.{Table}
 use Rattle.kept.specs.View.{resultAt}
 use Rattle.kept.specs.Fit.{isFit}

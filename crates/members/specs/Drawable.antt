@@ -16,7 +16,7 @@ use Rattle.laws.specs.Limits.{Width}
 use Rattle.laws.specs.Lists.{Once, Falling}
 use Rattle.laws.specs.Row.{isScored}
 use Rattle.trees.specs.Tree.{isTree}
-use Rattle.cluster.specs.Reasons.{firstReason}
+use Rattle.answers.specs.Reasons.{firstReason}
 use Rattle.kept.specs.declared.table.Table.{Table}
 use Rattle.kept.specs.View.{rowAt, resultAt}
 use Rattle.kept.specs.Fit.{isFit}

@@ -5,15 +5,15 @@
 //     drawn_tree       what is drawn of a table
 use crate::marks::members_of;
 use crate::nesting::is_tree;
-use cluster::Answer;
-use cluster::Refusal;
+use answers::Answer;
+use answers::Refusal;
 use kept::Table;
 use kept::is_fit;
 use kept::leaf_set;
 use kept::place_of;
 ghost use mathlib.Core.Path.{_≡_};
 ghost use Rattle.laws.specs.Limits.{narrow};
-ghost use Rattle.cluster.specs.Outcome.{outcomeOf};
+ghost use Rattle.answers.specs.Outcome.{outcomeOf};
 ghost use Rattle.members.specs.Draw.{noMembers, drawnTree, drawnOf};
 ghost use Rattle.members.specs.Gathered.{Found};
 

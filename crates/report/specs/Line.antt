@@ -9,11 +9,11 @@ use mathlib.Core.Option.{Option, none, some}
 use mathlib.Core.List.{List, []}
 use Prim.Native.Nat.{ℕ, _+_}
 use Rattle.laws.specs.Limits.{narrow}
-use Rattle.cluster.specs.declared.refusal.Answer.the-variants.{Refused}
-use Rattle.cluster.specs.declared.refusal.Refusal.{Refusal}
-use Rattle.cluster.specs.Refusal.{sentOf}
-use Rattle.cluster.specs.Reasons.{firstReason}
-use Rattle.cluster.specs.Outcome.{Outcome, written}
+use Rattle.answers.specs.declared.refusal.Answer.the-variants.{Refused}
+use Rattle.answers.specs.declared.refusal.Refusal.{Refusal}
+use Rattle.answers.specs.Refusal.{sentOf}
+use Rattle.answers.specs.Reasons.{firstReason}
+use Rattle.answers.specs.Outcome.{Outcome, written}
 use Rattle.kept.specs.declared.table.Table.{Table}
 use Rattle.kept.specs.View.{resultAt}
 use Rattle.table.specs.Build.{buildReasons, buildTable}

@@ -4,7 +4,7 @@
 //     line           the line, into a room
 use crate::words::refused_line;
 use crate::words::tree_line;
-use cluster::Answer;
+use answers::Answer;
 use drawing::drawn_text;
 use kept::Table;
 use table::build;
@@ -12,7 +12,7 @@ use texts::Text;
 use texts::put;
 ghost use mathlib.Core.Path.{_≡_};
 ghost use mathlib.Core.List.{[]};
-ghost use Rattle.cluster.specs.Outcome.{outcomeOf};
+ghost use Rattle.answers.specs.Outcome.{outcomeOf};
 ghost use Rattle.texts.specs.Text.{holding, withBytes};
 ghost use Rattle.report.specs.Line.{tableLine, lineOf, lineInto};
 

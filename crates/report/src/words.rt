@@ -5,17 +5,17 @@
 //     add_place        that, for the refusals that tell it
 //     refused_line     the line of a refusal
 //     tree_line        the line of a tree
-use cluster::Refusal;
-use cluster::number_of;
-use cluster::position_of;
+use answers::Refusal;
+use answers::number_of;
+use answers::position_of;
 use texts::Text;
 use texts::add;
 use texts::add_decimal;
 use texts::empty;
 ghost use mathlib.Core.Path.{_≡_};
 ghost use mathlib.Core.List.{[], _++_};
-ghost use Rattle.cluster.specs.declared.refusal.Answer.the-variants.{Refused};
-ghost use Rattle.cluster.specs.Refusal.{sentOf};
+ghost use Rattle.answers.specs.declared.refusal.Answer.the-variants.{Refused};
+ghost use Rattle.answers.specs.Refusal.{sentOf};
 ghost use Rattle.shapes.specs.Characters.{characters};
 ghost use Rattle.shapes.specs.Decimal.{decimal};
 ghost use Rattle.texts.specs.Text.{holding, withBytes};

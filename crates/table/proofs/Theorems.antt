@@ -19,7 +19,7 @@
 --   strict marking, one outcome for every input
 --     build-only                                     `build`
 --     rescore-only (Changing/RescoredTables)         `rescore`
---     value-only (`cluster`, Theorems.antt)          `zero_table`, `is_fit`, `place_of`, `leaf_set`: the promise is an equation to a value
+--     value-only (`laws`, Only.antt)          `zero_table`, `is_fit`, `place_of`, `leaf_set`: the promise is an equation to a value
 -- Definitions of changes and of rescoring once and again (`changedBytes`, `changeAll`, `rescoreAll`): `specs/Changes.antt`.
 -- Assumes nothing.
 use mathlib.Core.Path.{_≡_, refl, sym, ap, ap₂, _∙_, subst}
@@ -34,15 +34,15 @@ use Rattle.laws.specs.Lists.{elem}
 use Rattle.laws.specs.Row.{Row}
 use Rattle.laws.specs.Widths.{WidthFacts}
 use Rattle.laws.proofs.Tests.{T-true, true-T, T-of-not}
-use Rattle.cluster.specs.declared.refusal.Answer.{Answer}
-use Rattle.cluster.specs.declared.refusal.Answer.the-variants.{Done, Refused}
-use Rattle.cluster.specs.declared.refusal.Refusal.{Refusal}
-use Rattle.cluster.specs.Outcome.{Outcome, outcomeOf}
-use Rattle.cluster.specs.Reasons.{First}
-use Rattle.cluster.specs.Refusal.{sentOf}
+use Rattle.answers.specs.declared.refusal.Answer.{Answer}
+use Rattle.answers.specs.declared.refusal.Answer.the-variants.{Done, Refused}
+use Rattle.answers.specs.declared.refusal.Refusal.{Refusal}
+use Rattle.answers.specs.Outcome.{Outcome, outcomeOf}
+use Rattle.answers.specs.Reasons.{First}
+use Rattle.answers.specs.Refusal.{sentOf}
 use Rattle.cluster.specs.Rule.{isScore}
-use Rattle.cluster.proofs.Laws.Outcome.{outcome-only, accepts-iff, refuses-iff}
-use Rattle.cluster.proofs.Laws.Reasons.{none-iff}
+use Rattle.answers.proofs.Laws.Outcome.{outcome-only, accepts-iff, refuses-iff}
+use Rattle.answers.proofs.Laws.Reasons.{none-iff}
 use Rattle.lists.specs.Accepted.{Bytes, Accepted, HasCluster, RecordsAmong}
 use Rattle.lists.specs.Records.{rowsOf}
 use Rattle.lists.proofs.Laws.Records.{cluster-iff}

@@ -6,9 +6,9 @@ use mathlib.Core.Bool.{not}
 use mathlib.Core.List.{List, _∷_}
 use Prim.Native.Nat.{ℕ}
 use Rattle.laws.specs.Limits.{Width, isDegree}
-use Rattle.cluster.specs.declared.refusal.Refusal.the-variants.{DegreeOut}
-use Rattle.cluster.specs.Outcome.{Outcome, ended}
-use Rattle.cluster.specs.Reasons.{Reason, when, firstReason}
+use Rattle.answers.specs.declared.refusal.Refusal.the-variants.{DegreeOut}
+use Rattle.answers.specs.Outcome.{Outcome, ended}
+use Rattle.answers.specs.Reasons.{Reason, when, firstReason}
 use Rattle.lists.specs.Records.{rowsOf}
 use Rattle.lists.specs.Listing.{listReasons}
 use Rattle.trees.specs.Built.{builtTable}

@@ -9,9 +9,9 @@ use mathlib.Core.List.{List, [], _∷_}
 use Prim.Native.Nat.{ℕ}
 use lib.IntN.{ℤ}
 use Rattle.laws.specs.Limits.{Width}
-use Rattle.cluster.specs.declared.refusal.Refusal.the-variants.{Unfit, NoRow, BadScore}
-use Rattle.cluster.specs.Outcome.{Outcome, ended}
-use Rattle.cluster.specs.Reasons.{Reason, when, firstReason}
+use Rattle.answers.specs.declared.refusal.Refusal.the-variants.{Unfit, NoRow, BadScore}
+use Rattle.answers.specs.Outcome.{Outcome, ended}
+use Rattle.answers.specs.Reasons.{Reason, when, firstReason}
 use Rattle.cluster.specs.Rule.{isScore}
 use Rattle.trees.specs.Rescored.{rescored}
 use Rattle.kept.specs.declared.table.Table.{Table}

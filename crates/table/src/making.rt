@@ -4,8 +4,8 @@
 //     made         rows in arrays, worked out
 //     build        a list of records and a degree bound to a table
 use crate::working::again;
-use cluster::Answer;
-use cluster::Refusal;
+use answers::Answer;
+use answers::Refusal;
 use kept::DEGREE_HIGH;
 use kept::DEGREE_LOW;
 use kept::Table;
@@ -13,8 +13,8 @@ use kept::zero_table;
 use lists::read_list;
 ghost use mathlib.Core.Path.{_≡_};
 ghost use Rattle.laws.specs.Limits.{narrow};
-ghost use Rattle.cluster.specs.declared.refusal.Answer.the-variants.{Done, Refused};
-ghost use Rattle.cluster.specs.Outcome.{outcomeOf};
+ghost use Rattle.answers.specs.declared.refusal.Answer.the-variants.{Done, Refused};
+ghost use Rattle.answers.specs.Outcome.{outcomeOf};
 ghost use Rattle.kept.specs.View.{zeroTable};
 ghost use Rattle.table.specs.Build.{buildTable};
 ghost use Rattle.table.specs.Tables.{unworkedTable};

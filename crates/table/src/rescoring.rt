@@ -3,16 +3,16 @@
 //     reworked     columns as a table, worked out again
 //     rescore      one row with a new weight and state, and every row that contains it worked out again
 use crate::working::again;
-use cluster::Answer;
-use cluster::Refusal;
+use answers::Answer;
+use answers::Refusal;
 use cluster::is_score;
 use kept::Table;
 use kept::is_fit;
 use kept::place_of;
 ghost use mathlib.Core.Path.{_≡_};
 ghost use Rattle.laws.specs.Limits.{narrow};
-ghost use Rattle.cluster.specs.declared.refusal.Answer.the-variants.{Done};
-ghost use Rattle.cluster.specs.Outcome.{outcomeOf};
+ghost use Rattle.answers.specs.declared.refusal.Answer.the-variants.{Done};
+ghost use Rattle.answers.specs.Outcome.{outcomeOf};
 ghost use Rattle.table.specs.Rescore.{rescoreTable};
 ghost use Rattle.table.specs.Tables.{tableIn};
 ghost use Rattle.table.specs.Working.{againTable, Workable};

@@ -1,11 +1,11 @@
 // Bytes put into a room. Cites `specs/Outcome.antt` of the crate `cluster`.
 //     put     bytes at the start of a room
+use answers::Answer;
+use answers::Refusal;
 use bytes::copy;
-use cluster::Answer;
-use cluster::Refusal;
 ghost use mathlib.Core.Path.{_≡_};
 ghost use mathlib.Core.List.{[]};
-ghost use Rattle.cluster.specs.Outcome.{outcomeOf, written};
+ghost use Rattle.answers.specs.Outcome.{outcomeOf, written};
 
 // Bytes at the start of a room; the answer tells how many. Refused 11 where the room is shorter, which is then left as it was.
 pub fn put(bytes: &[u8], room: &mut [u8]) -> Answer

@@ -11,15 +11,15 @@ use Prim.Native.Nat.{ℕ}
 use borrow.Author.Tests.{eq-eqb, ne-eqb}
 use lib.ListN.{length}
 use Rattle.laws.specs.Limits.{narrow}
-use Rattle.cluster.specs.declared.refusal.Answer.the-variants.{Done, Refused}
-use Rattle.cluster.specs.declared.refusal.Refusal.{Refusal}
-use Rattle.cluster.specs.declared.refusal.Refusal.the-variants.{WrongLength, BadRecord}
-use Rattle.cluster.specs.Outcome.{outcomeOf, ended}
-use Rattle.cluster.specs.Reasons.{Reason, when, firstReason}
+use Rattle.answers.specs.declared.refusal.Answer.the-variants.{Done, Refused}
+use Rattle.answers.specs.declared.refusal.Refusal.{Refusal}
+use Rattle.answers.specs.declared.refusal.Refusal.the-variants.{WrongLength, BadRecord}
+use Rattle.answers.specs.Outcome.{outcomeOf, ended}
+use Rattle.answers.specs.Reasons.{Reason, when, firstReason}
 use Rattle.cluster.specs.Record.{recordBytes, recordOf}
 use Rattle.cluster.specs.Rule.{isKept}
 use Rattle.cluster.specs.Reading.{ruleOf, zeroRecord, readReasons, readRecord}
-use Rattle.cluster.proofs.Laws.Reasons.{reason-told, reason-passed}
+use Rattle.answers.proofs.Laws.Reasons.{reason-told, reason-passed}
 
 module _ (l : List ℕ) where
   pub readRecord-is : readRecord l ≡ ended (firstReason (readReasons l)) zeroRecord 0 (recordOf l)

@@ -9,14 +9,14 @@ use Prim.Native.Nat.{ℕ, _≤_, _<_}
 use lib.ListN.{length, drop}
 use Rattle.laws.specs.Limits.{narrow}
 use Rattle.cluster.specs.declared.record.Record.{Record}
-use Rattle.cluster.specs.declared.refusal.Answer.the-variants.{Done, Refused}
-use Rattle.cluster.specs.declared.refusal.Refusal.the-variants.{BadRecord, NoRoom}
-use Rattle.cluster.specs.Outcome.{outcomeOf, written}
+use Rattle.answers.specs.declared.refusal.Answer.the-variants.{Done, Refused}
+use Rattle.answers.specs.declared.refusal.Refusal.the-variants.{BadRecord, NoRoom}
+use Rattle.answers.specs.Outcome.{outcomeOf, written}
 use Rattle.cluster.specs.Record.{recordBytes, rowIn, bytesOf}
 use Rattle.cluster.specs.Rule.{brokenRule, isKept}
 use Rattle.cluster.specs.Writing.{writeReasons, writeRecord}
-use Rattle.cluster.proofs.Laws.Outcome.{written-refused, written-short, written-whole}
-use Rattle.cluster.proofs.Laws.Reasons.{reason-told, reason-passed}
+use Rattle.answers.proofs.Laws.Outcome.{written-refused, written-short, written-whole}
+use Rattle.answers.proofs.Laws.Reasons.{reason-told, reason-passed}
 
 module _ (r : Record) (l : List ℕ) where
   pub writeRecord-is : writeRecord r l ≡ written (writeReasons r) (bytesOf narrow (rowIn r)) l

@@ -9,7 +9,7 @@ use native.Mathlib.Numerals.{add-one}
 use lib.IntN.{ℤ, pos}
 use lib.ListN.{getD}
 use Rattle.laws.specs.Limits.{narrow}
-use Rattle.cluster.specs.Outcome.{Outcome, outcomeOf}
+use Rattle.answers.specs.Outcome.{Outcome, outcomeOf}
 use Rattle.kept.specs.declared.table.Table.{Table}
 use Rattle.table.specs.declared.making.Built.{Built}
 use Rattle.table.specs.declared.rescoring.Rescored.{Rescored}

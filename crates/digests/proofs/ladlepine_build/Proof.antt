@@ -1,7 +1,7 @@
 -- `digests::ladlepine_build` meets its contract: the digest of the table of the build's promise. Assumes nothing.
 use mathlib.Core.Path.{ap, _∙_}
 use borrow.Author.Needs.{needs}
-use Rattle.cluster.specs.Outcome.{Outcome}
+use Rattle.answers.specs.Outcome.{Outcome}
 use Rattle.kept.specs.declared.table.Table.{Table}
 use Rattle.digests.specs.Digest.{digest}
 use Rattle.digests.proofs.ladlepine_build.Statement.{statement}

@@ -16,12 +16,12 @@ use lib.ListN.{length}
 use Rattle.laws.specs.Limits.{Width, rowCap}
 use Rattle.laws.specs.Widths.{WidthFacts}
 use Rattle.laws.proofs.Tests.{true-T}
-use Rattle.cluster.specs.declared.refusal.Answer.{Answer}
-use Rattle.cluster.specs.declared.refusal.Answer.the-variants.{Done, Refused}
-use Rattle.cluster.specs.declared.refusal.Refusal.{Refusal}
-use Rattle.cluster.specs.Reasons.{firstReason}
-use Rattle.cluster.specs.Outcome.{outcomeOf, ended, written}
-use Rattle.cluster.proofs.Laws.Outcome.{outcome-only, ended-refused, ended-done, written-refused, written-passed}
+use Rattle.answers.specs.declared.refusal.Answer.{Answer}
+use Rattle.answers.specs.declared.refusal.Answer.the-variants.{Done, Refused}
+use Rattle.answers.specs.declared.refusal.Refusal.{Refusal}
+use Rattle.answers.specs.Reasons.{firstReason}
+use Rattle.answers.specs.Outcome.{outcomeOf, ended, written}
+use Rattle.answers.proofs.Laws.Outcome.{outcome-only, ended-refused, ended-done, written-refused, written-passed}
 use Rattle.shapes.specs.Nests.{TreeOn}
 use Rattle.texts.specs.declared.text.Text.{Text}
 use Rattle.texts.specs.Text.{holding}

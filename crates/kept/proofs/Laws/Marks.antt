@@ -21,7 +21,7 @@ use lib.Bits as bits
 use lib.Dec.{T, eqb, eqb→eq, lit<}
 use lib.Pow.{pow-pos, pow-mono, pow-add, shl-exact, shr-shr, high}
 use Rattle.laws.specs.Cluster.{inside, highest}
-use Rattle.laws.specs.Limits.{wordValues}
+use Rattle.laws.specs.Limits.{wordValues, rowCap}
 use Rattle.laws.proofs.Cluster.{inside-trans, has-of-inside, rest-inside, union-rest, taxon-of-union, zero-of-inside, taxon-nonzero}
 use Rattle.laws.proofs.Digits.{has-lt, pow-has}
 use Rattle.laws.proofs.Taxa.{highest-le, highest-gt}
@@ -109,7 +109,7 @@ module _ (lo hi : ℕ) where
       let at : i ≡ 64 + (i - 64) = omega arith in
       ap (hasMark (lo + wordValues * hi)) at ∙ mark-high (i - 64) h
 
-  pub mark-over : (i : ℕ) → lo < wordValues → hi < wordValues → 128 ≤ i → hasMark (lo + wordValues * hi) i ≡ false
+  pub mark-over : (i : ℕ) → lo < wordValues → hi < wordValues → rowCap ≤ i → hasMark (lo + wordValues * hi) i ≡ false
   mark-over i h k l = mark-past i h (omega arith) ∙ T-false _ (λ m. omega (arith, mark-lt 64 hi (i - 64) k m))
 
   pub mark-low : (i : ℕ) → i < 64 → hasMark (lo + wordValues * hi) i ≡ hasMark lo i

@@ -20,13 +20,13 @@ use Rattle.laws.specs.Lists.{firstFrom}
 use Rattle.laws.specs.Row.{Row}
 use Rattle.laws.proofs.Down.{down-ext}
 use Rattle.laws.proofs.First.{first-high}
-use Rattle.cluster.specs.declared.refusal.Answer.the-variants.{Done, Refused}
-use Rattle.cluster.specs.declared.refusal.Refusal.{Refusal}
-use Rattle.cluster.specs.declared.refusal.Refusal.the-variants.{NoBytes, WrongLength, TooLong, BadRecord, Repeated}
-use Rattle.cluster.specs.Outcome.{Outcome, outcomeOf, ended}
-use Rattle.cluster.specs.Reasons.{Reason, when, firstReason}
+use Rattle.answers.specs.declared.refusal.Answer.the-variants.{Done, Refused}
+use Rattle.answers.specs.declared.refusal.Refusal.{Refusal}
+use Rattle.answers.specs.declared.refusal.Refusal.the-variants.{NoBytes, WrongLength, TooLong, BadRecord, Repeated}
+use Rattle.answers.specs.Outcome.{Outcome, outcomeOf, ended}
+use Rattle.answers.specs.Reasons.{Reason, when, firstReason}
 use Rattle.cluster.specs.Record.{recordBytes}
-use Rattle.cluster.proofs.Laws.Reasons.{reason-told, reason-passed}
+use Rattle.answers.proofs.Laws.Reasons.{reason-told, reason-passed}
 use Rattle.lists.specs.declared.order.Order.{Order}
 use Rattle.lists.specs.declared.records.Records.{Records}
 use Rattle.lists.specs.Records.{recordsIn, listedAt, rowsOf, breaks, firstBad, repeats, firstRepeat}

@@ -13,8 +13,8 @@ use lib.ListN.{length}
 use Rattle.laws.specs.Limits.{Width}
 use Rattle.laws.proofs.First.{found-iff, unfound-iff}
 use Rattle.laws.proofs.Tests.{eq→eqb, neq→, →neq}
-use Rattle.cluster.specs.declared.refusal.Refusal.the-variants.{BadRecord, Repeated}
-use Rattle.cluster.specs.Refusal.{positionOf}
+use Rattle.answers.specs.declared.refusal.Refusal.the-variants.{BadRecord, Repeated}
+use Rattle.answers.specs.Refusal.{positionOf}
 use Rattle.lists.specs.Records.{recordsIn, breaks, firstBad, repeats, firstRepeat}
 use Rattle.lists.specs.Accepted.{KeepsAt, Repeats, FirstBad, FirstRepeat}
 use Rattle.lists.proofs.Laws.Records.{keeps-iff, breaks-iff, repeats-iff, new-iff}

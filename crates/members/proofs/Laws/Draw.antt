@@ -21,11 +21,11 @@ use Rattle.laws.specs.Limits.{Width}
 use Rattle.laws.proofs.Integers.{ltZ-irrefl, tri, Tri}
 use Rattle.laws.proofs.Tests.{T-and, and-T, T-true, T-false, neq→}
 use Rattle.trees.specs.Tree.{isTree}
-use Rattle.cluster.specs.declared.refusal.Answer.the-variants.{Done, Refused}
-use Rattle.cluster.specs.declared.refusal.Refusal.{Refusal}
-use Rattle.cluster.specs.declared.refusal.Refusal.the-variants.{NoTree, Unfit}
-use Rattle.cluster.specs.Outcome.{Outcome, outcomeOf, ended}
-use Rattle.cluster.specs.Reasons.{firstReason}
+use Rattle.answers.specs.declared.refusal.Answer.the-variants.{Done, Refused}
+use Rattle.answers.specs.declared.refusal.Refusal.{Refusal}
+use Rattle.answers.specs.declared.refusal.Refusal.the-variants.{NoTree, Unfit}
+use Rattle.answers.specs.Outcome.{Outcome, outcomeOf, ended}
+use Rattle.answers.specs.Reasons.{firstReason}
 use Rattle.kept.specs.declared.table.Table.{Table}
 use Rattle.kept.specs.View.{resultAt}
 use Rattle.kept.specs.Fit.{isFit}

@@ -23,14 +23,14 @@ use Rattle.laws.specs.Limits.{narrow, degreeHigh, isDegree}
 use Rattle.laws.proofs.Integers.{mag-le-abs}
 use Rattle.laws.proofs.Tests.{T-of-not}
 use Rattle.laws.proofs.Width.{narrow-facts, degree-range}
-use Rattle.cluster.specs.declared.refusal.Answer.{Answer}
-use Rattle.cluster.specs.declared.refusal.Answer.the-variants.{Done, Refused}
-use Rattle.cluster.specs.declared.refusal.Refusal.{Refusal}
-use Rattle.cluster.specs.Refusal.{positionOf, sentOf}
-use Rattle.cluster.specs.Reasons.{firstReason}
-use Rattle.cluster.specs.Outcome.{Outcome, outcomeOf, ended, written}
-use Rattle.cluster.proofs.Laws.Outcome.{outcome-only, ended-refused, ended-done, written-told}
-use Rattle.cluster.proofs.Laws.Reasons.{Each, first-each, none-iff}
+use Rattle.answers.specs.declared.refusal.Answer.{Answer}
+use Rattle.answers.specs.declared.refusal.Answer.the-variants.{Done, Refused}
+use Rattle.answers.specs.declared.refusal.Refusal.{Refusal}
+use Rattle.answers.specs.Refusal.{positionOf, sentOf}
+use Rattle.answers.specs.Reasons.{firstReason}
+use Rattle.answers.specs.Outcome.{Outcome, outcomeOf, ended, written}
+use Rattle.answers.proofs.Laws.Outcome.{outcome-only, ended-refused, ended-done, written-told}
+use Rattle.answers.proofs.Laws.Reasons.{Each, first-each, none-iff}
 use Rattle.lists.specs.Records.{recordsIn, rowsOf, firstBad, firstRepeat}
 use Rattle.trees.specs.Result.{Result}
 use Rattle.trees.specs.Built.{builtTable}

@@ -17,10 +17,10 @@ use lib.IntN.{ℤ, pos, natAbs}
 use lib.ListN.{length, length-append}
 use lib.Signed.{ltZ}
 use Rattle.laws.specs.Limits.{narrow, weightMax}
-use Rattle.cluster.specs.declared.refusal.Answer.the-variants.{Refused}
-use Rattle.cluster.specs.declared.refusal.Refusal.{Refusal}
-use Rattle.cluster.specs.Refusal.{numberOf, positionOf, sentOf}
-use Rattle.cluster.proofs.Laws.Refusal.{number-le}
+use Rattle.answers.specs.declared.refusal.Answer.the-variants.{Refused}
+use Rattle.answers.specs.declared.refusal.Refusal.{Refusal}
+use Rattle.answers.specs.Refusal.{numberOf, positionOf, sentOf}
+use Rattle.answers.proofs.Laws.Refusal.{number-le}
 use Rattle.shapes.specs.Characters.{characters}
 use Rattle.shapes.specs.Decimal.{decimal}
 use Rattle.shapes.proofs.Decimal.{decimal-length-le}

@@ -9,13 +9,13 @@ use mathlib.Core.List.{List, [], _∷_}
 use Prim.Native.Nat.{ℕ}
 use lib.IntN.{ℤ}
 use Rattle.laws.specs.Limits.{Width}
-use Rattle.cluster.specs.declared.refusal.Answer.the-variants.{Done, Refused}
-use Rattle.cluster.specs.declared.refusal.Refusal.{Refusal}
-use Rattle.cluster.specs.declared.refusal.Refusal.the-variants.{Unfit, NoRow, BadScore}
-use Rattle.cluster.specs.Outcome.{outcomeOf, ended}
-use Rattle.cluster.specs.Reasons.{Reason, when, firstReason}
+use Rattle.answers.specs.declared.refusal.Answer.the-variants.{Done, Refused}
+use Rattle.answers.specs.declared.refusal.Refusal.{Refusal}
+use Rattle.answers.specs.declared.refusal.Refusal.the-variants.{Unfit, NoRow, BadScore}
+use Rattle.answers.specs.Outcome.{outcomeOf, ended}
+use Rattle.answers.specs.Reasons.{Reason, when, firstReason}
 use Rattle.cluster.specs.Rule.{isScore}
-use Rattle.cluster.proofs.Laws.Reasons.{reason-told, reason-passed}
+use Rattle.answers.proofs.Laws.Reasons.{reason-told, reason-passed}
 use Rattle.kept.specs.declared.table.Table.{Table}
 use Rattle.kept.specs.Fit.{isFit}
 use Rattle.kept.specs.Rows.{hasRow}

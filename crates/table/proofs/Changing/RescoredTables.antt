@@ -22,14 +22,14 @@ use Rattle.laws.specs.Limits.{Width}
 use Rattle.laws.specs.Row.{Row}
 use Rattle.laws.proofs.Down.{down-length}
 use Rattle.laws.proofs.Tests.{T-of-not}
-use Rattle.cluster.specs.declared.refusal.Answer.{Answer}
-use Rattle.cluster.specs.declared.refusal.Answer.the-variants.{Refused}
-use Rattle.cluster.specs.declared.refusal.Refusal.{Refusal}
-use Rattle.cluster.specs.Outcome.{Outcome, outcomeOf}
-use Rattle.cluster.specs.Reasons.{firstReason, First}
-use Rattle.cluster.specs.Refusal.{sentOf}
+use Rattle.answers.specs.declared.refusal.Answer.{Answer}
+use Rattle.answers.specs.declared.refusal.Answer.the-variants.{Refused}
+use Rattle.answers.specs.declared.refusal.Refusal.{Refusal}
+use Rattle.answers.specs.Outcome.{Outcome, outcomeOf}
+use Rattle.answers.specs.Reasons.{firstReason, First}
+use Rattle.answers.specs.Refusal.{sentOf}
 use Rattle.cluster.specs.Rule.{isScore}
-use Rattle.cluster.proofs.Laws.Outcome.{outcome-only, accepts-iff, refuses-iff}
+use Rattle.answers.proofs.Laws.Outcome.{outcome-only, accepts-iff, refuses-iff}
 use Rattle.trees.specs.Rows.{Entry, cl}
 use Rattle.trees.specs.Result.{Result}
 use Rattle.trees.specs.Rescored.{workedOut, putScore, againIf, again, rescored}

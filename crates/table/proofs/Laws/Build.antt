@@ -28,15 +28,15 @@ use Rattle.laws.proofs.Cluster.{zero-inside}
 use Rattle.laws.proofs.Column.{column-keep}
 use Rattle.laws.proofs.Down.{down-mem}
 use Rattle.laws.proofs.Tests.{T-and, and-T, T-true}
-use Rattle.cluster.specs.declared.refusal.Answer.{Answer}
-use Rattle.cluster.specs.declared.refusal.Answer.the-variants.{Done, Refused}
-use Rattle.cluster.specs.declared.refusal.Refusal.{Refusal}
-use Rattle.cluster.specs.declared.refusal.Refusal.the-variants.{DegreeOut}
-use Rattle.cluster.specs.Outcome.{outcomeOf, ended}
-use Rattle.cluster.specs.Reasons.{firstReason}
+use Rattle.answers.specs.declared.refusal.Answer.{Answer}
+use Rattle.answers.specs.declared.refusal.Answer.the-variants.{Done, Refused}
+use Rattle.answers.specs.declared.refusal.Refusal.{Refusal}
+use Rattle.answers.specs.declared.refusal.Refusal.the-variants.{DegreeOut}
+use Rattle.answers.specs.Outcome.{outcomeOf, ended}
+use Rattle.answers.specs.Reasons.{firstReason}
 use Rattle.cluster.specs.Rule.{keepsRules}
-use Rattle.cluster.proofs.Laws.Outcome.{ended-refused, ended-done}
-use Rattle.cluster.proofs.Laws.Reasons.{reason-told, reason-passed, none-iff}
+use Rattle.answers.proofs.Laws.Outcome.{ended-refused, ended-done}
+use Rattle.answers.proofs.Laws.Reasons.{reason-told, reason-passed, none-iff}
 use Rattle.lists.specs.Accepted.{Bytes, Accepted}
 use Rattle.lists.specs.Listing.{Listed, listed, listReasons, readList}
 use Rattle.lists.specs.Records.{rowsOf}

@@ -14,7 +14,7 @@ use lib.IntN.{ℤ, pos, natAbs}
 use lib.ListN.{getD}
 use mir.Syntax.{w32}
 use mir.Val.{SFits}
-use Rattle.laws.specs.Limits.{Width, weightMax, wordValues}
+use Rattle.laws.specs.Limits.{Width, weightMax, wordValues, rowCap}
 use Rattle.laws.specs.Lists.{Falling}
 use Rattle.laws.specs.Row.{Row}
 use Rattle.laws.specs.Widths.{WidthFacts}
@@ -72,7 +72,7 @@ module _ {W : Width} (facts : WidthFacts W) {given : Table} {c : ℕ} (w : Worka
     among-same : (P : List ℕ → Type 0) → P (clustersIn given) → P (clustersDown (t .clusters) (given .rows))
     among-same P h = subst P (sym same-clusters) h
 
-    room : given .rows ≤ 128
+    room : given .rows ≤ rowCap
     room = omega (arith, w .capped, facts .rows)
 
     ready-sound : i < given .rows → Sound (W .countMax) (columnsOf t) (clustersDown (t .clusters) (given .rows)) i

@@ -12,7 +12,7 @@ use native.Mathlib.Omega.{arith}
 use lib.IntN.{ℤ}
 use lib.Pow.{pow-lt, pow-add, high, low}
 use borrow.Author.Tests.{lt-ltb, le-ltb}
-use Rattle.laws.specs.Limits.{wordValues}
+use Rattle.laws.specs.Limits.{wordValues, rowCap}
 use Rattle.kept.proofs.Laws.Marks.{shifted}
 use Rattle.table.specs.declared.tally.Tally.{Tally}
 use Rattle.table.specs.Tally.{lowMark, highMark, ownTally}
@@ -29,7 +29,7 @@ module _ (i : ℕ) where
   pub high-mark-none : i < 64 → 0 ≡ highMark i
   high-mark-none h = ap (λ (b : Bool). cond b 0 (2 ^ (i - 64))) (sym (lt-ltb i 64 h))
 
-  pub high-mark-shift : 64 ≤ i → i < 128 → (1 * 2 ^ (i - 64)) % wordValues ≡ highMark i
+  pub high-mark-shift : 64 ≤ i → i < rowCap → (1 * 2 ^ (i - 64)) % wordValues ≡ highMark i
   high-mark-shift h k = shifted (i - 64) (omega arith) ∙ ap (λ (b : Bool). cond b 0 (2 ^ (i - 64))) (sym (le-ltb i 64 h))
 
 -- ---- the words of 2 ^ i

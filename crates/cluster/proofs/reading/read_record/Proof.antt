@@ -5,8 +5,8 @@ use mathlib.Core.Bool.{Bool}
 use denote.Ref.{now}
 use Rattle.laws.specs.Limits.{narrow}
 use Rattle.cluster.specs.declared.record.Record.{Record}
-use Rattle.cluster.specs.declared.refusal.Answer.the-variants.{Done}
-use Rattle.cluster.specs.Outcome.{outcomeOf}
+use Rattle.answers.specs.declared.refusal.Answer.the-variants.{Done}
+use Rattle.answers.specs.Outcome.{outcomeOf}
 use Rattle.cluster.specs.Rule.{brokenRule, isKept}
 use Rattle.cluster.specs.Reading.{ruleOf}
 use Rattle.cluster.proofs.Laws.Reading.{readRecord-length, readRecord-broken, readRecord-kept}

@@ -4,9 +4,9 @@ use borrow.Author.Tests.{not-true, not-false}
 use mathlib.Core.Path.{_≡_, sym, ap, _∙_}
 use mathlib.Core.Bool.{Bool, true, false}
 use denote.Ref.{now}
-use Rattle.cluster.specs.declared.refusal.Answer.the-variants.{Done}
+use Rattle.answers.specs.declared.refusal.Answer.the-variants.{Done}
 use Rattle.cluster.specs.declared.record.Record.{Record}
-use Rattle.cluster.specs.Outcome.{outcomeOf}
+use Rattle.answers.specs.Outcome.{outcomeOf}
 use Rattle.cluster.specs.Record.{recordBytes}
 use Rattle.cluster.specs.Rule.{brokenRule, isKept}
 use Rattle.cluster.proofs.Laws.Writing.{writeRecord-broken, writeRecord-short, writeRecord-kept}

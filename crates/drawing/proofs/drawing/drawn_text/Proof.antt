@@ -6,8 +6,8 @@ use borrow.Author.Needs.{needs}
 use lib.ListN.{length, getD}
 use Rattle.laws.specs.Limits.{narrow, rowCap}
 use Rattle.laws.proofs.Width.{narrow-facts}
-use Rattle.cluster.specs.declared.refusal.Answer.the-variants.{Refused}
-use Rattle.cluster.specs.Outcome.{outcomeOf}
+use Rattle.answers.specs.declared.refusal.Answer.the-variants.{Refused}
+use Rattle.answers.specs.Outcome.{outcomeOf}
 use Rattle.shapes.specs.Drawn.{textOf}
 use Rattle.texts.specs.declared.text.Text.{Text}
 use Rattle.texts.specs.Text.{holding}

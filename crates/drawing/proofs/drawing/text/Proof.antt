@@ -6,7 +6,7 @@ use borrow.Author.Needs.{needs}
 use denote.Ref.{now}
 use Rattle.laws.specs.Limits.{narrow}
 use Rattle.laws.proofs.Width.{narrow-facts}
-use Rattle.cluster.specs.Outcome.{written}
+use Rattle.answers.specs.Outcome.{written}
 use Rattle.texts.proofs.Laws.{text-front, text-fits, text-count}
 use Rattle.kept.specs.declared.table.Table.{Table}
 use Rattle.drawing.specs.Draw.{leafText, TextDrawn}

@@ -8,9 +8,9 @@ use denote.Ref.{now}
 use lib.ListN.{length, drop}
 use Rattle.laws.specs.Limits.{narrow}
 use Rattle.laws.proofs.Width.{narrow-facts}
-use Rattle.cluster.specs.declared.refusal.Answer.the-variants.{Done}
-use Rattle.cluster.specs.Outcome.{outcomeOf}
-use Rattle.cluster.proofs.Laws.Outcome.{written-short, written-whole}
+use Rattle.answers.specs.declared.refusal.Answer.the-variants.{Done}
+use Rattle.answers.specs.Outcome.{outcomeOf}
+use Rattle.answers.proofs.Laws.Outcome.{written-short, written-whole}
 use Rattle.kept.specs.declared.table.Table.{Table}
 use Rattle.members.specs.Draw.{membersOf}
 use Rattle.members.specs.Drawable.{Success}

@@ -1,7 +1,7 @@
 -- `lists::listing::check_list` meets its contract: the answer is that of reading. Assumes nothing.
 use borrow.Author.Needs.{needs}
 use mathlib.Core.Path.{ap}
-use Rattle.cluster.specs.Outcome.{Outcome}
+use Rattle.answers.specs.Outcome.{Outcome}
 use Rattle.lists.specs.Listing.{Listed}
 use Rattle.lists.proofs.listing.check_list.Statement.{statement}
 use Rattle.lists.proofs.listing.check_list.Tie as tie

@@ -4,7 +4,7 @@ use mathlib.Core.List.{List, []}
 use Prim.Native.Nat.{ℕ}
 use borrow.Author.Needs.{needs}
 use denote.Ref.{now}
-use Rattle.cluster.specs.Outcome.{written}
+use Rattle.answers.specs.Outcome.{written}
 use Rattle.texts.specs.Text.{holding}
 use Rattle.texts.proofs.Laws.{text-front, text-fits, text-count}
 use Rattle.report.specs.Line.{lineOf}

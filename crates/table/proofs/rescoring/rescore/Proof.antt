@@ -10,7 +10,7 @@ use lib.ListN.{getD}
 use mir.Facts.{toZ-ofZ}
 use mir.Syntax.{w64}
 use mir.Val.{Fits}
-use Rattle.laws.specs.Limits.{narrow, wordValues}
+use Rattle.laws.specs.Limits.{narrow, wordValues, rowCap}
 use Rattle.laws.proofs.Tests.{true-T, passed, failed}
 use Rattle.laws.proofs.Width.{narrow-facts}
 use Rattle.cluster.specs.Rule.{isScore}
@@ -34,7 +34,7 @@ words s j = let f : Fits w64 (getD (s .args .t1 .«members_low») j 0) = search 
 fit : (c : tie.Else1) → isFit narrow (c .before .before .args .t1) ≡ true
 fit c = passed (c .before .is-fit .ensures) (c .if1 .left)
 
-capped : (c : tie.Else1) → c .before .before .args .t1 .rows ≤ 128
+capped : (c : tie.Else1) → c .before .before .args .t1 .rows ≤ rowCap
 capped c = isFit→ narrow narrow-facts (c .before .before .args .t1) (true-T (fit c)) .capped
 
 -- ---- the row of the cluster
@@ -50,7 +50,7 @@ listed c =
     let s = start (c .before) in
     row-listed (s .args .t1) (capped (fits-at (c .before))) (s .args .cluster) _ (c .before .place-of .ensures) (c .if2 .left)
 
-room : (c : tie.Else3) → c .before .before .before .place-of .result < 128
+room : (c : tie.Else3) → c .before .before .before .place-of .result < rowCap
 room c = let at = c .before .before in omega (arith, at .if2 .left, capped (fits-at (at .before)))
 
 found : (c : tie.Else2)

@@ -1,8 +1,8 @@
 -- `table::rescoring::reworked` meets its contract: the results are copied, and worked out again where they stand. Assumes nothing.
 use borrow.Author.Needs.{needs}
 use mathlib.Core.Path.{ap}
-use Rattle.cluster.specs.declared.refusal.Answer.the-variants.{Done}
-use Rattle.cluster.specs.Outcome.{outcomeOf}
+use Rattle.answers.specs.declared.refusal.Answer.the-variants.{Done}
+use Rattle.answers.specs.Outcome.{outcomeOf}
 use Rattle.kept.specs.declared.table.Table.{Table}
 use Rattle.table.proofs.rescoring.reworked.Statement.{statement}
 use Rattle.table.proofs.rescoring.reworked.Tie as tie

@@ -11,7 +11,7 @@ use lib.ListN.{getD}
 use mir.Facts.{toZ-ofZ}
 use mir.Syntax.{w32, w64}
 use mir.Val.{SFits}
-use Rattle.laws.specs.Limits.{narrow}
+use Rattle.laws.specs.Limits.{narrow, rowCap}
 use Rattle.laws.proofs.Width.{narrow-facts}
 use Rattle.kept.specs.declared.table.Table.{Table}
 use Rattle.table.specs.Columns.{columnsOf}
@@ -55,7 +55,7 @@ columnsWith s = let a = s .args in tableIn (a .n) (a .degree) (a .clusters .now)
 abbrev rowsAt : tie.At-loop Inv-loop μ-loop → Table
 rowsAt c = let l = c .loop in columnsWith (start c) (l .lengths) (l .counts) (l .marks) (l .bests) (l .lows) (l .highs)
 
-room : (c : tie.In-loop Inv-loop μ-loop) → c .before .loop .i < 128
+room : (c : tie.In-loop Inv-loop μ-loop) → c .before .loop .i < rowCap
 room c = omega (arith, c .loop-test .taken, start (c .before) .pre .capped)
 
 weight-fits : (c : tie.In-loop Inv-loop μ-loop) → SFits w32 (getD (rowsAt (c .before) .weights) (c .before .loop .i) (pos 0))
@@ -63,7 +63,7 @@ weight-fits c =
     let at-loop = c .before in
     weight-at narrow-facts (start at-loop .pre) (at-loop .loop .inv) (c .loop-test .taken)
 
-stored-room : (c : tie.After-struct-told Inv-loop μ-loop) → in-loop (row (c .before .before)) .before .loop .i < 128
+stored-room : (c : tie.After-struct-told Inv-loop μ-loop) → in-loop (row (c .before .before)) .before .loop .i < rowCap
 stored-room c = room (in-loop (row (c .before .before)))
 
 -- ---- needs

@@ -6,9 +6,9 @@ use borrow.Author.Needs.{needs}
 use denote.Ref.{now}
 use lib.ListN.{length, drop}
 use lib.Seq.{take-length}
-use Rattle.cluster.specs.declared.refusal.Answer.the-variants.{Done}
-use Rattle.cluster.specs.Outcome.{outcomeOf}
-use Rattle.cluster.proofs.Laws.Outcome.{written-short, written-whole}
+use Rattle.answers.specs.declared.refusal.Answer.the-variants.{Done}
+use Rattle.answers.specs.Outcome.{outcomeOf}
+use Rattle.answers.proofs.Laws.Outcome.{written-short, written-whole}
 use Rattle.texts.proofs.putting.put.Statement.{statement}
 use Rattle.texts.proofs.putting.put.Tie as tie
 

@@ -11,12 +11,12 @@ use mathlib.Core.List.{List, [], _∷_, _++_}
 use Prim.Native.Nat.{ℕ}
 use lib.Dec.{ltb}
 use lib.ListN.{length, drop}
-use Rattle.cluster.specs.declared.refusal.Answer.{Answer}
-use Rattle.cluster.specs.declared.refusal.Answer.the-variants.{Done, Refused}
-use Rattle.cluster.specs.declared.refusal.Refusal.{Refusal}
-use Rattle.cluster.specs.declared.refusal.Refusal.the-variants.{NoRoom}
-use Rattle.cluster.specs.Refusal.{Sent, sentOf}
-use Rattle.cluster.specs.Reasons.{Reason, when, firstReason}
+use Rattle.answers.specs.declared.refusal.Answer.{Answer}
+use Rattle.answers.specs.declared.refusal.Answer.the-variants.{Done, Refused}
+use Rattle.answers.specs.declared.refusal.Refusal.{Refusal}
+use Rattle.answers.specs.declared.refusal.Refusal.the-variants.{NoRoom}
+use Rattle.answers.specs.Refusal.{Sent, sentOf}
+use Rattle.answers.specs.Reasons.{Reason, when, firstReason}
 
 pub record Outcome (A : Type 0) : Type 0 where
   pub sent : Sent

@@ -12,8 +12,8 @@ use mathlib.Core.Option.{none, some, Option·some-injective, Option·none-ne-som
 use mathlib.Core.List.{List, [], _∷_, _++_}
 use lib.Dec.{T}
 use Rattle.laws.proofs.Tests.{T-true, T-false}
-use Rattle.cluster.specs.declared.refusal.Refusal.{Refusal}
-use Rattle.cluster.specs.Reasons.{Reason, when, firstReason, First, NoneApplies}
+use Rattle.answers.specs.declared.refusal.Refusal.{Refusal}
+use Rattle.answers.specs.Reasons.{Reason, when, firstReason, First, NoneApplies}
 
 -- ---- by steps
 

@@ -4,7 +4,7 @@
 //     number_of     the paper's number of a refusal
 //     position_of   the position told with it
 ghost use mathlib.Core.Path.{_≡_};
-ghost use Rattle.cluster.specs.Refusal.{numberOf, positionOf};
+ghost use Rattle.answers.specs.Refusal.{numberOf, positionOf};
 
 // Why an operation was refused. A case holds a position, from 0, where the paper has one.
 pub enum Refusal {

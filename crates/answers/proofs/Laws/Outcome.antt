@@ -18,15 +18,15 @@ use native.Mathlib.Omega.{arith}
 use borrow.Author.Tests.{le-leb, lt-leb}
 use lib.Dec.{T, ltb, lt→ltb}
 use lib.ListN.{length, drop}
-use Rattle.cluster.specs.declared.refusal.Answer.{Answer}
-use Rattle.cluster.specs.declared.refusal.Answer.the-variants.{Done, Refused}
-use Rattle.cluster.specs.declared.refusal.Refusal.{Refusal}
-use Rattle.cluster.specs.declared.refusal.Refusal.the-variants.{NoRoom}
-use Rattle.cluster.specs.Refusal.{sentOf}
-use Rattle.cluster.specs.Reasons.{Reason, when, firstReason, First, NoneApplies}
-use Rattle.cluster.specs.Outcome.{Outcome, outcomeOf, ended, written}
-use Rattle.cluster.proofs.Laws.Reasons.{reason-told, reason-passed, first-some, first-none, none-append, first-iff, none-iff}
-use Rattle.cluster.proofs.Laws.Refusal.{sentOf-inj, number-pos}
+use Rattle.answers.specs.declared.refusal.Answer.{Answer}
+use Rattle.answers.specs.declared.refusal.Answer.the-variants.{Done, Refused}
+use Rattle.answers.specs.declared.refusal.Refusal.{Refusal}
+use Rattle.answers.specs.declared.refusal.Refusal.the-variants.{NoRoom}
+use Rattle.answers.specs.Refusal.{sentOf}
+use Rattle.answers.specs.Reasons.{Reason, when, firstReason, First, NoneApplies}
+use Rattle.answers.specs.Outcome.{Outcome, outcomeOf, ended, written}
+use Rattle.answers.proofs.Laws.Reasons.{reason-told, reason-passed, first-some, first-none, none-append, first-iff, none-iff}
+use Rattle.answers.proofs.Laws.Refusal.{sentOf-inj, number-pos}
 
 module _ {A : Type 0} where
   pub outcome-only : {o : Outcome A} (a b : Answer) (x y : A) → outcomeOf a x ≡ o → outcomeOf b y ≡ o → (a ≡ b) × (x ≡ y)

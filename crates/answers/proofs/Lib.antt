@@ -1,0 +1,2 @@
+-- what is true of the definitions, for the crates above
+pub mod Laws
