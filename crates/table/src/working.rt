@@ -127,8 +127,10 @@ pub(crate) fn again<'a>(
 {
     let mut starts = [n; 65];
     put_starts(&mut starts, clusters, n);
-    let mut i = 0;
-    while i < n {
+    let mut next = 0;
+    while next < n {
+        let i = next;
+        next += 1;
         if is_inside(cluster, clusters[i]) {
             let weight = weights[i];
             let r = worked(
@@ -152,6 +154,5 @@ pub(crate) fn again<'a>(
             lows[i] = r.low;
             highs[i] = r.high;
         }
-        i += 1;
     }
 }

@@ -78,9 +78,9 @@ module _ {W : Width} (facts : WidthFacts W) {given : Table} {c : ℕ} (w : Worka
     words = w .words;
   }
 
-  pub partly-skip : {t t′ : Table} {i : ℕ} → Partly W given c t i → i < given .rows → inside c (getD (t .clusters) i 0) ≡ false → t′ ≡ t
-      → Partly W given c t′ (i + 1)
-  partly-skip {t} {t′} {i} p h b e = subst (λ (x : Table). Partly W given c x (i + 1)) (sym e) (record {
+  pub partly-skip : {t : Table} {i : ℕ} → Partly W given c t i → i < given .rows → inside c (getD (t .clusters) i 0) ≡ false
+      → Partly W given c t (i + 1)
+  partly-skip {t} {i} p h b = record {
     within = omega arith;
     degree = p .degree;
     rows = p .rows;
@@ -91,7 +91,7 @@ module _ {W : Width} (facts : WidthFacts W) {given : Table} {c : ℕ} (w : Worka
     done = rw (add-one i) (ap₂ (λ (e : Entry Result) (l : List (Entry Result)). e ∷ l) (p .left i (omega arith)) (p .done) ∙ passed);
     left = λ j l. p .left j (omega arith);
     words = p .words;
-  })
+  }
     where
       out : inside c (getD (given .clusters) i 0) ≡ false
       out = sym (ap (λ (l : List ℕ). inside c (getD l i 0)) (p .clusters)) ∙ b
@@ -142,8 +142,8 @@ module _ {W : Width} (facts : WidthFacts W) {given : Table} {c : ℕ} (w : Worka
       }
 
       -- the code's store of the best weight goes by its bits
-      pub partly-store : {z : ℤ} → z ≡ r .best → {t′ : Table} → t′ ≡ storedWith t i r z → Partly W given c t′ (i + 1)
-      partly-store q x = subst (λ (y : Table). Partly W given c y (i + 1)) (sym (x ∙ ap (storedWith t i r) q)) stored-partly
+      pub partly-store : {z : ℤ} → z ≡ r .best → Partly W given c (storedWith t i r z) (i + 1)
+      partly-store q = subst (λ (z : ℤ). Partly W given c (storedWith t i r z) (i + 1)) (sym q) stored-partly
 
     -- ---- all rows passed
 

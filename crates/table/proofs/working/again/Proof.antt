@@ -1,7 +1,6 @@
 -- `table::working::again` meets its contract. The invariant: the results of the first i rows are the given ones worked out again, and the
 -- rest is as given. The measure is the rows left. Assumes nothing.
-use mathlib.Core.Path.{_≡_, refl, sym, ap, _∙_}
-use mathlib.Core.Logic.{⊎-elim}
+use mathlib.Core.Path.{refl, sym, ap, _∙_}
 use mathlib.Core.List.{List}
 use Prim.Native.Nat.{ℕ, _-_, _<_}
 use native.Mathlib.Omega.{arith}
@@ -19,20 +18,20 @@ use Rattle.table.specs.Tables.{tableIn}
 use Rattle.table.specs.Working.{workedTally}
 use Rattle.table.proofs.Rows.AgainRow.{Partly, ready-row, weight-at}
 use Rattle.table.proofs.Rows.Workable.{cluster-word}
-use Rattle.table.proofs.Rows.AgainLoop.{storedWith, partly-start, partly-skip, partly-store, partly-end}
+use Rattle.table.proofs.Rows.AgainLoop.{partly-start, partly-skip, partly-store, partly-end}
 use Rattle.table.proofs.working.again.Statement.{statement}
 use Rattle.table.proofs.working.again.Tie as tie
 
 abbrev Inv-loop : tie.InvT-loop
-Inv-loop clusters weights states lengths₀ counts₀ marks₀ bests₀ lows₀ highs₀ n degree cluster starts i₀
-    lengths counts marks bests lows highs i =
+Inv-loop clusters weights states lengths₀ counts₀ marks₀ bests₀ lows₀ highs₀ n degree cluster starts next₀
+    lengths counts marks bests lows highs next =
     let columns = tableIn n degree clusters weights states in
-    Partly narrow (columns lengths₀ counts₀ marks₀ bests₀ lows₀ highs₀) cluster (columns lengths counts marks bests lows highs) i
+    Partly narrow (columns lengths₀ counts₀ marks₀ bests₀ lows₀ highs₀) cluster (columns lengths counts marks bests lows highs) next
 
 abbrev μ-loop : tie.MeasureT-loop
-μ-loop clusters weights states lengths₀ counts₀ marks₀ bests₀ lows₀ highs₀ n degree cluster starts i₀
-    lengths counts marks bests lows highs i =
-    n - i
+μ-loop clusters weights states lengths₀ counts₀ marks₀ bests₀ lows₀ highs₀ n degree cluster starts next₀
+    lengths counts marks bests lows highs next =
+    n - next
 
 -- ---- places
 
@@ -55,15 +54,15 @@ columnsWith s = let a = s .args in tableIn (a .n) (a .degree) (a .clusters .now)
 abbrev rowsAt : tie.At-loop Inv-loop μ-loop → Table
 rowsAt c = let l = c .loop in columnsWith (start c) (l .lengths) (l .counts) (l .marks) (l .bests) (l .lows) (l .highs)
 
-room : (c : tie.In-loop Inv-loop μ-loop) → c .before .loop .i < rowCap
+room : (c : tie.In-loop Inv-loop μ-loop) → c .before .loop .next < rowCap
 room c = omega (arith, c .loop-test .taken, start (c .before) .pre .capped)
 
-weight-fits : (c : tie.In-loop Inv-loop μ-loop) → SFits w32 (getD (rowsAt (c .before) .weights) (c .before .loop .i) (pos 0))
+weight-fits : (c : tie.In-loop Inv-loop μ-loop) → SFits w32 (getD (rowsAt (c .before) .weights) (c .before .loop .next) (pos 0))
 weight-fits c =
     let at-loop = c .before in
     weight-at narrow-facts (start at-loop .pre) (at-loop .loop .inv) (c .loop-test .taken)
 
-stored-room : (c : tie.After-struct-told Inv-loop μ-loop) → in-loop (row (c .before .before)) .before .loop .i < rowCap
+stored-room : (c : tie.After-struct-told Inv-loop μ-loop) → in-loop (row (c .before .before)) .before .loop .next < rowCap
 stored-room c = room (in-loop (row (c .before .before)))
 
 -- ---- needs
@@ -82,26 +81,27 @@ worked-requires c κs =
 
 loop-again : tie.Need-loop-again Inv-loop μ-loop
 loop-again c =
-    let inside = c .before .before .before in
+    let call = c .before .worked in
+    let told = row (c .before .before) in
+    let inside = in-loop told in
     let at-loop = inside .before in
     let s = start at-loop in
-    let t = rowsAt at-loop in
-    let i = at-loop .loop .i in
-    let test = c .before .is-inside .ensures in
-    ⊎-elim
-    (λ w.
-    let call = w .8 in
     -- what is known of the result's fields, in the order of the struct: past tuples, count and mark, the best weight
-    let from-best = w .9 .given .1 .1 .1 in
+    let from-best = c .struct-told .given .1 .1 .1 in
     let best-fits : SFits w64 (call .result .best) = record { sfits = from-best .0 .1 } in
     partly-store narrow-facts (s .pre) (at-loop .loop .inv) (at-loop .before .put-starts .ensures) (inside .loop-test .taken)
-    (sym test ∙ w .0 .taken)
-    (call .ensures ∙ ap (λ (z : ℤ). workedTally narrow (columnsOf t) z i (s .args .degree)) (toZ-ofZ (weight-fits inside)))
-    (toZ-ofZ best-fits) (λ k. columnsWith s (w .10 k) (w .11 k) (w .12 k) (w .13 k) (w .14 k) (w .15 k)))
-    (λ w.
-    partly-skip narrow-facts (s .pre) (at-loop .loop .inv) (inside .loop-test .taken) (sym test ∙ w .0 .left)
-    (λ k. columnsWith s (w .1 k) (w .2 k) (w .3 k) (w .4 k) (w .5 k) (w .6 k)))
-    (c .if1 .came)
+    (sym (told .before .is-inside .ensures) ∙ told .if1 .taken)
+    (call .ensures
+    ∙ ap (λ (z : ℤ). workedTally narrow (columnsOf (rowsAt at-loop)) z (at-loop .loop .next) (s .args .degree))
+    (toZ-ofZ (weight-fits inside)))
+    (toZ-ofZ best-fits)
+
+loop-again-2 : tie.Need-loop-again-2 Inv-loop μ-loop
+loop-again-2 c =
+    let inside = c .before .before .before in
+    let at-loop = inside .before in
+    partly-skip narrow-facts (start at-loop .pre) (at-loop .loop .inv) (inside .loop-test .taken)
+    (sym (c .before .is-inside .ensures) ∙ c .if1 .left)
 
 returns : tie.Need-returns Inv-loop μ-loop
 returns c =
@@ -116,6 +116,7 @@ again-spec =
     μ-loop
     put-starts-requires
     (λ c. partly-start narrow-facts (c .before .before .pre))
+    (λ c. omega (arith, room c))
     (λ c. omega (arith, room c))
     room
     (λ c κs. search needs)
@@ -133,7 +134,8 @@ again-spec =
     stored-room
     (λ c. omega (arith, stored-room c))
     stored-room
-    (λ c. omega (arith, room (c .before .before .before)))
-    (λ c. let inside = c .before .before .before in omega (arith, inside .loop-test .taken))
+    (λ c. let inside = in-loop (row (c .before .before)) in omega (arith, inside .loop-test .taken))
     loop-again
+    (λ c. let inside = c .before .before .before in omega (arith, inside .loop-test .taken))
+    loop-again-2
     returns)
