@@ -2,6 +2,7 @@
 // left fall. Cites `specs/Searched.antt`.
 //     place_below     how many of the first rows have a smaller cluster, by bisection
 //     put_starts      where the rows of each highest taxon start
+//     wide            a mark as a tally has it
 //     part            a row as one part of a tuple
 //     last            the one cover of a cluster by one row
 //     search          the sum over the covers of a cluster
@@ -59,6 +60,13 @@ pub(crate) fn put_starts(starts: &mut [usize; 65], clusters: &[u64; 128], n: usi
     }
 }
 
+// A mark as a tally has it.
+fn wide(mark: u8) -> u64
+    ensures { λ r. ⌜ r ≡ mark ⌝ }
+{
+    mark as u64
+}
+
 // Row `i` as one part of a tuple.
 fn part<'a>(
     counts: &'a [u64; 128],
@@ -76,7 +84,7 @@ fn part<'a>(
     Tally {
         tuples: 1,
         count: counts[i],
-        mark: marks[i],
+        mark: wide(marks[i]),
         best,
         low: lows[i],
         high: highs[i],

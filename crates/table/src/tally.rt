@@ -12,11 +12,12 @@ ghost use mir.Val.{SFits};
 ghost use Rattle.laws.specs.Limits.{wordValues};
 ghost use Rattle.table.specs.Sums.{noTally, cappedSum, cappedProduct, isLarger, isBefore, keepsFirst, plusTally, underTally};
 
-// A number of tuples with the fields of a row. A count of 0 says that no tuple leads to a tree, and then the rest is zero.
+// A number of tuples with the fields of a row. A count of 0 says that no tuple leads to a tree, and then the rest is zero. The mark has a
+// whole word, so that a tally has no gap to be copied.
 pub(crate) struct Tally {
     pub tuples: u64,
     pub count: u64,
-    pub mark: u8,
+    pub mark: u64,
     pub best: i64,
     pub low: u64,
     pub high: u64,
@@ -25,7 +26,7 @@ pub(crate) struct Tally {
 // A count and its mark.
 pub(crate) struct Count {
     pub count: u64,
-    pub mark: u8,
+    pub mark: u64,
 }
 
 // No tuple.

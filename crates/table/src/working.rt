@@ -20,6 +20,9 @@ ghost use Rattle.table.specs.Working.{Workable, workedTally, againTable,
 ghost use Rattle.table.specs.Columns.{columns};
 ghost use Rattle.table.specs.Tables.{tableIn};
 
+// How many values a byte has.
+const BYTE_VALUES: u64 = 256;
+
 // The mark of row `i` in the low word.
 fn low_mark(i: usize) -> u64
     ensures { λ r. ⌜ r ≡ lowMark i ⌝ }
@@ -149,7 +152,7 @@ pub(crate) fn again<'a>(
             let best = r.best;
             lengths[i] = r.tuples;
             counts[i] = r.count;
-            marks[i] = r.mark;
+            marks[i] = (r.mark % BYTE_VALUES) as u8;
             bests[i] = best;
             lows[i] = r.low;
             highs[i] = r.high;

@@ -1,11 +1,12 @@
 -- The row loop of `again` (`src/working.rt`): how it begins, goes on and ends, with every row worked out again. What holds after each
 -- row is `Partly` of `AgainRow.antt`.
---     storedWith t i r z      the results r in row i, with the best weight z
+--     storedWith t i r m z    the results r in row i, with the mark m and the best weight z
 --     partly-start, partly-skip, partly-store, partly-end
 -- Assumes nothing.
 use mathlib.Core.Path.{_≡_, refl, sym, ap, ap₂, _∙_, subst}
 use mathlib.Core.Bool.{Bool, true, false}
-use mathlib.Core.List.{List, _∷_}
+use mathlib.Core.Logic.{⊎-elim}
+use mathlib.Core.List.{List, _∷_, List·Memᴰ as Mem, List·Memᴰ·head as here}
 use Prim.Native.Nat.{ℕ, suc, _+_, _*_, _/_, _%_, _≤_, _<_}
 use native.Mathlib.Decide.{ℕ-discrete}
 use native.Mathlib.Numerals.{add-one}
@@ -18,6 +19,7 @@ use Rattle.laws.specs.Cluster.{inside}
 use Rattle.laws.specs.Limits.{Width, rowCap, wordValues}
 use Rattle.laws.specs.Row.{Row}
 use Rattle.laws.specs.Widths.{WidthFacts}
+use Rattle.cluster.specs.Bytes.{byteValues}
 use Rattle.trees.specs.Rows.{Entry}
 use Rattle.trees.specs.Result.{Result}
 use Rattle.trees.specs.Rescored.{workedOut, againIf, again}
@@ -32,6 +34,8 @@ use Rattle.table.specs.Tally.{fieldsTally}
 use Rattle.table.specs.Working.{workedTally, againTable, Workable}
 use Rattle.table.specs.Columns.{columnsOf}
 use Rattle.table.proofs.Rows.AgainRow.{Partly, same-row, row-again}
+use Rattle.table.proofs.Rows.Workable.{again-fit-below}
+use Rattle.table.proofs.Tallies.Decoded.{good-of-fit}
 use Rattle.table.proofs.Rows.Stored.{resultIn, stored, stored-same, stored-other, stored-entries, stored-sized}
 
 -- the fields of a row, as a tally and back
@@ -47,10 +51,10 @@ result-back v = λ i. record {
 low-lt : (m : ℕ) → m % wordValues < wordValues
 low-lt m = omega arith
 
--- the results r in row i, with the best weight z
-abbrev pub storedWith : Table → ℕ → Tally → ℤ → Table
-storedWith t i r z =
-    stored t i (record { tuples = r .tuples; count = r .count; mark = r .mark; best = z; low = r .low; high = r .high })
+-- the results r in row i, with the mark m and the best weight z
+abbrev pub storedWith : Table → ℕ → Tally → ℕ → ℤ → Table
+storedWith t i r m z =
+    stored t i (record { tuples = r .tuples; count = r .count; mark = m; best = z; low = r .low; high = r .high })
 
 -- ---- how the loop begins, and a row that stays
 
@@ -141,9 +145,20 @@ module _ {W : Width} (facts : WidthFacts W) {given : Table} {c : ℕ} (w : Worka
         words = λ j l. stored-words j l (ℕ-discrete j i);
       }
 
-      -- the code's store of the best weight goes by its bits
-      pub partly-store : {z : ℤ} → z ≡ r .best → Partly W given c (storedWith t i r z) (i + 1)
-      partly-store q = subst (λ (z : ℤ). Partly W given c (storedWith t i r z) (i + 1)) (sym q) stored-partly
+      -- the row is fit, so its mark is 0 or 1
+      mark-small : r .mark < byteValues
+      mark-small =
+          let e : Entry Result = record { row = rowAt given i; val = F (rowAt given i) (again F c (entriesOf given i)) } in
+          let fit = again-fit-below facts w (suc i) (omega arith) e (subst (Mem e) stored-done (here (sym stored-row))) in
+          ⊎-elim (λ q. omega (arith, ap (λ (x : Tally). x .mark) row-is, q)) (λ q. omega (arith, ap (λ (x : Tally). x .mark) row-is, q .0))
+          (good-of-fit W cs e fit .marked)
+
+      -- the code stores the mark as a byte, and the best weight by its bits
+      pub partly-store : {z : ℤ} → z ≡ r .best → Partly W given c (storedWith t i r (r .mark % byteValues) z) (i + 1)
+      partly-store q =
+          let m : r .mark ≡ r .mark % byteValues = omega (arith, mark-small) in
+          subst (λ (z : ℤ). Partly W given c (storedWith t i r (r .mark % byteValues) z) (i + 1)) (sym q)
+          (subst (λ (m : ℕ). Partly W given c (storedWith t i r m (r .best)) (i + 1)) m stored-partly)
 
     -- ---- all rows passed
 

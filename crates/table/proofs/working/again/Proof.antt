@@ -65,6 +65,9 @@ weight-fits c =
 stored-room : (c : tie.After-struct-told Inv-loop μ-loop) → in-loop (row (c .before .before)) .before .loop .next < rowCap
 stored-room c = room (in-loop (row (c .before .before)))
 
+known-room : (c : tie.After-struct-known Inv-loop μ-loop) → in-loop (row (c .before .before .before)) .before .loop .next < rowCap
+known-room c = stored-room (c .before)
+
 -- ---- needs
 
 put-starts-requires : tie.Need-put-starts-requires Inv-loop μ-loop
@@ -81,13 +84,13 @@ worked-requires c κs =
 
 loop-again : tie.Need-loop-again Inv-loop μ-loop
 loop-again c =
-    let call = c .before .worked in
-    let told = row (c .before .before) in
+    let call = c .before .before .worked in
+    let told = row (c .before .before .before) in
     let inside = in-loop told in
     let at-loop = inside .before in
     let s = start at-loop in
     -- what is known of the result's fields, in the order of the struct: past tuples, count and mark, the best weight
-    let from-best = c .struct-told .given .1 .1 .1 in
+    let from-best = c .before .struct-told .given .1 .1 .1 in
     let best-fits : SFits w64 (call .result .best) = record { sfits = from-best .0 .1 } in
     partly-store narrow-facts (s .pre) (at-loop .loop .inv) (at-loop .before .put-starts .ensures) (inside .loop-test .taken)
     (sym (told .before .is-inside .ensures) ∙ told .if1 .taken)
@@ -127,14 +130,15 @@ again-spec =
     stored-room
     (λ c. omega (arith, stored-room c))
     stored-room
-    stored-room
-    (λ c. omega (arith, stored-room c))
-    stored-room
-    (λ c. omega (arith, stored-room c))
-    stored-room
-    (λ c. omega (arith, stored-room c))
-    stored-room
-    (λ c. let inside = in-loop (row (c .before .before)) in omega (arith, inside .loop-test .taken))
+    (λ c. search needs)
+    known-room
+    (λ c. omega (arith, known-room c))
+    known-room
+    (λ c. omega (arith, known-room c))
+    known-room
+    (λ c. omega (arith, known-room c))
+    known-room
+    (λ c. let inside = in-loop (row (c .before .before .before)) in omega (arith, inside .loop-test .taken))
     loop-again
     (λ c. let inside = c .before .before .before in omega (arith, inside .loop-test .taken))
     loop-again-2
