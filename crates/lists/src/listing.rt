@@ -6,6 +6,7 @@
 //     read_list      a list of records to its rows
 //     check_list     why a list is refused
 use crate::order::ordered;
+use crate::order::position;
 use crate::records::read_all;
 use answers::Answer;
 use answers::Refusal;
@@ -50,7 +51,7 @@ fn arranged<'a>(
     clusters: &'a [u64; 128],
     weights: &'a [i32; 128],
     states: &'a [u8; 128],
-    places: &'a [usize; 128],
+    places: &'a [u8; 128],
     n: usize,
 ) -> Listing
     requires { ⌜ Within (now places) n ⌝ }
@@ -66,7 +67,7 @@ fn arranged<'a>(
     };
     let mut i = 0;
     while i < n {
-        let at = places[i];
+        let at = position(places[i]);
         let weight = weights[at];
         listing.clusters[i] = clusters[at];
         listing.weights[i] = weight;

@@ -38,43 +38,35 @@ next c =
     let within = c .before .before .pre in
     omega (arith, within .room, within .each (c .before .loop .i) (c .loop-test .taken))
 
+-- and so is the one that the code reads at
+room : (c : tie.After-position Inv-loop μ-loop) → c .position .result < rowCap
+room c = omega (arith, c .position .ensures, next (c .before .before))
+
 -- a weight read there is one
 weight-fits : (c : tie.After-weight Inv-loop μ-loop)
-    → let at-loop = c .before .before .before in
-    let start = at-loop .before in
-    SFits w32 (getD (start .args .weights .now) (getD (start .args .places .now) (at-loop .loop .i) 0) (pos 0))
+    → let at = c .before in
+    let start = at .before .before .before .before in
+    SFits w32 (getD (start .args .weights .now) (at .position .result) (pos 0))
 weight-fits c = search needs
 
 loop-holds : tie.Need-loop-holds Inv-loop μ-loop
 loop-holds c = (omega arith, refl)
 
-mul-weight : tie.Need-mul-weight Inv-loop μ-loop
-mul-weight c = omega (arith, next (c .before))
-
-element-copy-out-weight : tie.Need-element-copy-out-weight Inv-loop μ-loop
-element-copy-out-weight c = next (c .before)
-
-mul-listing : tie.Need-mul-listing Inv-loop μ-loop
-mul-listing c = omega (arith, next (c .before .before))
-
-element-copy-out-listing : tie.Need-element-copy-out-listing Inv-loop μ-loop
-element-copy-out-listing c = next (c .before .before)
-
-element-copy-out-listing-2 : tie.Need-element-copy-out-listing-2 Inv-loop μ-loop
-element-copy-out-listing-2 c = next (c .before .before .before)
-
 loop-again : tie.Need-loop-again Inv-loop μ-loop
 loop-again c =
     let at-weight = c .before .before in
-    let at-loop = at-weight .before .before .before in
+    let at = at-weight .before in
+    let in-loop = at .before .before in
+    let at-loop = in-loop .before in
     let start = at-loop .before in
     let row = rows-given start in
-    let at = getD (start .args .places .now) (at-loop .loop .i) 0 in
-    let more = at-weight .before .before .loop-test .taken in (
+    let read = row (at .position .result) in
+    let more = in-loop .loop-test .taken in (
       omega (arith, more),
       arranged-next (start .args .n) row (start .args .places .now) (at-loop .loop .listing) (at-loop .loop .i) _
           more (start .pre .room) (at-loop .loop .inv .1)
-          (λ k. record { cluster = row at .cluster; weight = toZ-ofZ (weight-fits at-weight) k; state = row at .state }),
+          ((λ k. record { cluster = read .cluster; weight = toZ-ofZ (weight-fits at-weight) k; state = read .state })
+          ∙ ap row (at .position .ensures)),
     )
 
 returns : tie.Need-returns Inv-loop μ-loop
@@ -94,16 +86,16 @@ arranged-spec =
     μ-loop
     loop-holds
     (λ c. search needs)
-    (λ c. search needs)
-    mul-weight
-    element-copy-out-weight
-    mul-listing
-    element-copy-out-listing
-    (λ c. search needs)
-    (λ c. search needs)
+    (λ c κs. search needs)
+    (λ c. omega (arith, room c))
+    room
+    (λ c. omega (arith, room (c .before)))
+    (λ c. room (c .before))
     (λ c. search needs)
     (λ c. search needs)
-    element-copy-out-listing-2
+    (λ c. search needs)
+    (λ c. search needs)
+    (λ c. room (c .before .before))
     (λ c. search needs)
     (λ c. search needs)
     (λ c. search needs)
