@@ -5,6 +5,7 @@
 //     wide            a mark as a tally has it
 //     part            a row as one part of a tuple
 //     last            the one cover of a cluster by one row
+//     is_part         whether a row may be the next child
 //     search          the sum over the covers of a cluster
 use crate::tally::Tally;
 use crate::tally::none;
@@ -14,10 +15,13 @@ use cluster::highest;
 use cluster::is_inside;
 use cluster::is_scored;
 ghost use mathlib.Core.Path.{_≡_};
+ghost use mathlib.Core.Bool.{_&&_};
 ghost use mathlib.Core.List.{[]};
 ghost use Prim.Native.Nat.{_≤_, _<_};
-ghost use lib.ListN.{replicate};
+ghost use lib.ListN.{getD, replicate};
+ghost use Rattle.laws.specs.Cluster.{inside};
 ghost use Rattle.laws.specs.Limits.{degreeHigh, rowCap};
+ghost use Rattle.laws.specs.State.{scored};
 ghost use Rattle.kept.specs.Arrays.{Rising};
 ghost use Rattle.table.specs.Tally.{tallyOf};
 ghost use Rattle.table.specs.Searched.{Past, Below, Starts, WordsIn, Readable, Searchable};
@@ -127,7 +131,19 @@ fn last<'a>(
     part(counts, marks, bests, lows, highs, at)
 }
 
-// Over the covers of `rest` by at most `left` of the first `end` rows, which are all below the taxon above `rest`'s highest.
+// Whether row `i` is scored and lies inside `rest`.
+fn is_part<'a>(clusters: &'a [u64; 128], states: &'a [u8; 128], rest: u64, i: usize) -> bool
+    requires { ⌜ i < rowCap ⌝ }
+    ensures { λ b. ⌜ b ≡ (inside (getD (now (clusters .entry)) i 0) rest && scored (getD (now (states .entry)) i 0)) ⌝ }
+{
+    if !is_inside(clusters[i], rest) {
+        return false;
+    }
+    is_scored(states[i])
+}
+
+// Over the covers of `rest` by at most `left` of the first `end` rows, which are all below the taxon above `rest`'s highest. The last child
+// is looked up where the one before it is met: most tuples end there.
 pub(crate) fn search<'a>(
     clusters: &'a [u64; 128],
     states: &'a [u8; 128],
@@ -144,40 +160,41 @@ pub(crate) fn search<'a>(
 ) -> Tally
     requires { ⌜ Searchable limit
         (columns (now clusters) (now states) (now counts) (now marks) (now bests) (now lows) (now highs)) (now starts) end rest ⌝ }
-    requires { ⌜ (1 ≤ left) × (left < degreeHigh) ⌝ }
+    requires { ⌜ (2 ≤ left) × (left < degreeHigh) ⌝ }
     ensures { λ r. ⌜ r ≡ tallyOf limit (sumCovers left rest (partsOf
         (columns (now (clusters .entry)) (now (states .entry)) (now (counts .entry)) (now (marks .entry))
         (now (bests .entry)) (now (lows .entry)) (now (highs .entry))) end)) ⌝ }
 {
     let start = starts[highest(rest) as usize];
-    if left == 1 {
-        return last(
-            clusters,
-            states,
-            counts,
-            marks,
-            bests,
-            lows,
-            highs,
-            start,
-            end,
-            rest,
-            limit,
-        );
-    }
     let mut sum = none();
     let mut i = end;
     while start < i {
         i -= 1;
-        let c = clusters[i];
-        if is_inside(c, rest) {
-            if is_scored(states[i]) {
-                let one = part(counts, marks, bests, lows, highs, i);
-                let other = rest - c;
-                if other == 0 {
-                    sum = plus(sum, one, limit);
+        if is_part(clusters, states, rest, i) {
+            let other = rest - clusters[i];
+            let one = part(counts, marks, bests, lows, highs, i);
+            if other == 0 {
+                sum = plus(sum, one, limit);
+            } else {
+                let top = highest(other) as usize;
+                let next = starts[top + 1];
+                if left == 2 {
+                    let begin = starts[top];
+                    let inner = last(
+                        clusters,
+                        states,
+                        counts,
+                        marks,
+                        bests,
+                        lows,
+                        highs,
+                        begin,
+                        next,
+                        other,
+                        limit,
+                    );
+                    sum = plus(sum, under(one, inner, limit), limit);
                 } else {
-                    let next = starts[highest(other) as usize + 1];
                     let inner = search(
                         clusters,
                         states,

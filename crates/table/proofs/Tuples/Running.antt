@@ -2,10 +2,10 @@
 --     scan-grows               a scan loses no tuple
 --     Running                  what holds at the loop's head
 --     running-all, running-ended            at the start, and where no row left reaches the highest taxon
---     running-outside, running-unscored     a row that adds nothing
+--     running-skipped                       a row that adds nothing
 --     plus-asks, running-added              a row that adds something: nothing overflows, and the loop goes on
 -- Assumes nothing.
-use mathlib.Core.Path.{_≡_, sym, ap, ap₂, _∙_, subst}
+use mathlib.Core.Path.{_≡_, refl, sym, ap, ap₂, _∙_, subst}
 use mathlib.Core.Bool.{Bool, true, false, cond, _&&_}
 use mathlib.Core.Option.{none}
 use mathlib.Core.List.{List, [], _∷_, List·Memᴰ as Mem}
@@ -113,15 +113,25 @@ module _ {limit : ℕ} {k : Columns} {starts : List ℕ} {end R left start : ℕ
       left-over = left-after y h;
     }
 
-    pub running-outside : inside (getD (k .clusters) (i - 1) 0) R ≡ false → Running limit k starts end R left start sum (i - 1)
+    running-outside : inside (getD (k .clusters) (i - 1) 0) R ≡ false → Running limit k starts end R left start sum (i - 1)
     running-outside h =
         after (r .x) (r .tally) (r .counted)
         (scan-outside sumKind (adds k end R left) R e (partsOf k (i - 1)) (r .x) (λ t. subst T h t))
 
-    pub running-unscored : scored (getD (k .states) (i - 1) 0) ≡ false → Running limit k starts end R left start sum (i - 1)
+    running-unscored : scored (getD (k .states) (i - 1) 0) ≡ false → Running limit k starts end R left start sum (i - 1)
     running-unscored h =
         after (r .x) (r .tally) (r .counted)
         (scan-unscored sumKind (adds k end R left) R e (partsOf k (i - 1)) (r .x) (λ t. subst T h t))
+
+    -- a row that isn't both
+    pub running-skipped : (inside (getD (k .clusters) (i - 1) 0) R && scored (getD (k .states) (i - 1) 0)) ≡ false
+        → Running limit k starts end R left start sum (i - 1)
+    running-skipped h = go (inside (getD (k .clusters) (i - 1) 0) R) refl h
+      where
+        go : (b : Bool) → inside (getD (k .clusters) (i - 1) 0) R ≡ b → (b && scored (getD (k .states) (i - 1) 0)) ≡ false
+            → Running limit k starts end R left start sum (i - 1)
+        go true e h = running-unscored h
+        go false e h = running-outside e
 
     module _ {t : Tally} (a : Adds limit k end R left (i - 1) t) where
       abbrev z : Res

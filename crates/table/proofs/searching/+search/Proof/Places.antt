@@ -3,29 +3,36 @@
 --     μ-search, search-at, search-below     the measure of the calls, the children left, and what a call with that many asks
 --     claims                   what the functions that are called ask and tell
 --     Inv, μ                   the loop's invariant and its measure, the rows left
---     reached, loopStart, looked, tested, turn, partRow     from one place back to another
+--     reached, loopStart, tested, turn, partRow, lookedPart, foundPart     from one place back to another
 --     given, asked, room       the columns, what the search may count on, and that the row looked at is one of the 128
---     place, start-is, two     before the loop: the highest taxon, where its rows start, and that two children may be left
+--     place, start-is          before the loop: the highest taxon, and where its rows start
 --     below, led               at a row: it is one of those searched, and it leads what is left
---     next-small, adds-whole, adds-part, asks     what the row adds, and that the sums fit
+--     inner, inner-looked      what the search of the other part may count on; where one child is left, its sum is the one looked up
+--     next-small, adds-whole, adds-looked, adds-part, asks     what the row adds, and that the sums fit
 -- Assumes nothing.
 use mathlib.Core.Path.{_≡_, sym, ap, _∙_}
 use Prim.Native.Nat.{ℕ, _+_, _-_, _≤_, _<_}
 use native.Mathlib.Omega.{arith}
 use borrow.Fn.Kinds.{In}
 use borrow.Fn.PlainCycle.{Measures, is, falls, and}
+use lib.IntN.{_+ℤ_}
 use lib.ListN.{getD}
-use Rattle.laws.specs.Cluster.{highest}
+use mir.Syntax.{w64}
+use mir.Val.{SFits}
+use Rattle.laws.specs.Cluster.{inside, highest}
 use Rattle.laws.specs.Limits.{rowCap, wordValues}
+use Rattle.laws.specs.State.{scored}
+use Rattle.laws.proofs.Tests.{T-and, T-true, true-T}
 use Rattle.cluster.proofs.highest.Reads as highest-reads
-use Rattle.cluster.proofs.is_inside.Reads as is-inside-reads
-use Rattle.cluster.proofs.is_scored.Reads as is-scored-reads
 use Rattle.table.specs.declared.tally.Tally.{Tally}
 use Rattle.table.specs.Searched.{Searchable}
-use Rattle.table.specs.Columns.{Columns, columns}
+use Rattle.table.specs.Columns.{Columns, columns, partsOf, sumCovers}
+use Rattle.table.specs.Sums.{underTally}
+use Rattle.table.specs.Tally.{tallyOf}
 use Rattle.table.proofs.Tuples.Searchable.{taxon-fits}
-use Rattle.table.proofs.Tuples.SearchRow.{Led, Adds, whole-adds, next-place, part-adds}
+use Rattle.table.proofs.Tuples.SearchRow.{Led, Adds, whole-adds, next-place, inner-asks, under-asks, part-adds}
 use Rattle.table.proofs.Tuples.Running.{Running, plus-asks}
+use Rattle.table.proofs.searching.is_part.Reads as is-part-reads
 use Rattle.table.proofs.searching.last.Reads as last-reads
 use Rattle.table.proofs.searching.part.Reads as part-reads
 use Rattle.table.proofs.searching.search.Kinds as search-kinds
@@ -52,22 +59,20 @@ abbrev pub claims : ℕ → search-lts.Claims
 claims t = (
   highest-reads.Asked,
   highest-reads.Learnt,
-  last-reads.Asked,
-  last-reads.Learnt,
   none-reads.Asked,
   none-reads.Learnt,
-  is-inside-reads.Asked,
-  is-inside-reads.Learnt,
-  is-scored-reads.Asked,
-  is-scored-reads.Learnt,
+  is-part-reads.Asked,
+  is-part-reads.Learnt,
   part-reads.Asked,
   part-reads.Learnt,
   plus-reads.Asked,
   plus-reads.Learnt,
-  search-below t,
-  search′.Post,
+  last-reads.Asked,
+  last-reads.Learnt,
   under-reads.Asked,
   under-reads.Learnt,
+  search-below t,
+  search′.Post,
 )
 
 abbrev pub Inv : search-lts.InvT-loop
@@ -86,50 +91,50 @@ module _ (t : ℕ) where
   abbrev pub Reached : Type 0
   Reached = search-lts.After-highest (claims t) (search-at t) search′.Post Inv μ
 
-  abbrev pub More : Type 0
-  More = search-lts.Else1 (claims t) (search-at t) search′.Post Inv μ
-
   abbrev pub Loop : Type 0
   Loop = search-lts.At-loop (claims t) (search-at t) search′.Post Inv μ
 
   abbrev pub Turn : Type 0
   Turn = search-lts.In-loop (claims t) (search-at t) search′.Post Inv μ
 
-  abbrev pub Told : Type 0
-  Told = search-lts.After-is-scored (claims t) (search-at t) search′.Post Inv μ
-
   abbrev pub Row : Type 0
-  Row = search-lts.Then3 (claims t) (search-at t) search′.Post Inv μ
+  Row = search-lts.Then1 (claims t) (search-at t) search′.Post Inv μ
+
+  abbrev pub Whole : Type 0
+  Whole = search-lts.Then2 (claims t) (search-at t) search′.Post Inv μ
 
   abbrev pub Part : Type 0
   Part = search-lts.After-highest2 (claims t) (search-at t) search′.Post Inv μ
 
-  abbrev pub Whole : Type 0
-  Whole = search-lts.Then4 (claims t) (search-at t) search′.Post Inv μ
+  abbrev pub Looked : Type 0
+  Looked = search-lts.After-last (claims t) (search-at t) search′.Post Inv μ
 
-  abbrev pub Under : Type 0
-  Under = search-lts.After-under (claims t) (search-at t) search′.Post Inv μ
+  abbrev pub Found : Type 0
+  Found = search-lts.After-search (claims t) (search-at t) search′.Post Inv μ
 
   -- back to the call: from the highest taxon, from the loop's head
   abbrev pub reached : Reached → Start
   reached c = c .before
 
   abbrev pub loopStart : Loop → Start
-  loopStart c = let more = c .before .before in reached (more .before .before)
+  loopStart c = reached (c .before .before .before)
 
-  -- back to the loop's test and head, from where it is told whether a row inside is scored, and from where it is; and to there, from the
-  -- highest taxon that it leaves
-  abbrev pub looked : Told → Turn
-  looked c = c .before .before .before .before .before
-
+  -- back to the loop's test and head, from where a row is a part
   abbrev pub tested : Row → Turn
-  tested c = looked (c .before)
+  tested c = c .before .before
 
   abbrev pub turn : Row → Loop
   turn c = tested c .before
 
+  -- to there from the highest taxon that it leaves; and to that, from where the last child is looked up and from where others are found
   abbrev pub partRow : Part → Row
-  partRow c = c .before .before .before
+  partRow c = c .before .before .before .before
+
+  abbrev pub lookedPart : Looked → Part
+  lookedPart c = c .before .before .before .before
+
+  abbrev pub foundPart : Found → Part
+  foundPart c = c .before .before .before
 
   -- ---- what is known there
 
@@ -148,9 +153,6 @@ module _ (t : ℕ) where
       → let starts = reached c .args .starts .now in getD starts (c .highest .result) 0 ≡ getD starts (highest (reached c .args .rest)) 0
   start-is c = ap (λ (h : ℕ). getD (reached c .args .starts .now) h 0) (c .highest .ensures)
 
-  pub two : (c : More) → 2 ≤ reached (c .before .before) .args .left
-  two c = omega (arith, reached (c .before .before) .pre .1 .1 .0, c .if1 .left)
-
   pub below : (c : Turn) → c .before .loop .i - 1 < loopStart (c .before) .args .end
   below c = omega (arith, c .before .loop .inv .within, c .loop-test .taken)
 
@@ -159,16 +161,40 @@ module _ (t : ℕ) where
 
   pub led : (c : Row) → let s = loopStart (turn c) in
       Led (s .args .limit) (given s) (s .args .starts .now) (s .args .end) (s .args .rest) (turn c .loop .i - 1)
-  led c = record {
-    asked = asked (loopStart (turn c));
-    place = below (tested c);
-    reached = omega (arith, turn c .loop .inv .begins, tested c .loop-test .taken);
-    within = let at = c .before .before .before in sym (at .before .is-inside .ensures) ∙ at .if2 .taken;
-    scored = sym (c .before .is-scored .ensures) ∙ c .if3 .taken;
-  }
+  led c =
+      let s = loopStart (turn c) in
+      let j = turn c .loop .i - 1 in
+      let lies = inside (getD (s .args .clusters .now) j 0) (s .args .rest) in
+      let counts = scored (getD (s .args .states .now) j 0) in
+      let both = T-and lies counts (true-T (sym (c .before .is-part .ensures) ∙ c .if1 .taken)) in
+      record {
+        asked = asked (loopStart (turn c));
+        place = below (tested c);
+        reached = omega (arith, turn c .loop .inv .begins, tested c .loop-test .taken);
+        within = T-true lies (both .0);
+        scored = T-true counts (both .1);
+      }
 
   pub next-small : (c : Part) → c .highest2 .result + 1 < 65
-  next-small c = next-place (loopStart (turn (partRow c)) .args .left) (led (partRow c)) (c .before .if4 .left) (c .highest2 .ensures)
+  next-small c = next-place (loopStart (turn (partRow c)) .args .left) (led (partRow c)) (c .before .if2 .left) (c .highest2 .ensures)
+
+  pub inner : (c : Part)
+      → let s = loopStart (turn (partRow c)) in
+      let starts = s .args .starts .now in
+      Searchable (s .args .limit) (given s) starts (getD starts (c .highest2 .result + 1) 0)
+      (s .args .rest - getD (s .args .clusters .now) (turn (partRow c) .loop .i - 1) 0)
+  inner c = inner-asks (loopStart (turn (partRow c)) .args .left) (led (partRow c)) (c .before .if2 .left) (c .highest2 .ensures)
+
+  pub inner-looked : (c : Looked)
+      → let p = lookedPart c in
+      let s = loopStart (turn (partRow p)) in
+      c .last .result
+      ≡ tallyOf (s .args .limit) (sumCovers (s .args .left - 1) (s .args .rest - getD (s .args .clusters .now) (turn (partRow p) .loop .i - 1) 0)
+      (partsOf (given s) (getD (s .args .starts .now) (p .highest2 .result + 1) 0)))
+  inner-looked c =
+      let s = loopStart (turn (partRow (lookedPart c))) in
+      let e : s .args .left - 1 ≡ 1 = omega (arith, c .before .before .if3 .taken) in
+      rw e (c .last .ensures)
 
   -- u is what the row adds
   abbrev pub Adding : Loop → Tally → Type 0
@@ -176,16 +202,27 @@ module _ (t : ℕ) where
       let s = loopStart c in
       Adds (s .args .limit) (given s) (s .args .end) (s .args .rest) (s .args .left) (c .loop .i - 1) u
 
-  pub adds-whole : (c : Whole) → Adding (turn (c .before .before)) (c .before .part .result)
+  pub adds-whole : (c : Whole) → Adding (turn (c .before .before .before)) (c .before .part .result)
   adds-whole c =
-      let at = c .before .before in
-      whole-adds (loopStart (turn at) .args .left) (led at) (c .before .part .ensures) (c .if4 .taken)
+      let at = c .before .before .before in
+      whole-adds (loopStart (turn at) .args .left) (led at) (c .before .part .ensures) (c .if2 .taken)
 
-  pub adds-part : (c : Under) → Adding (turn (partRow (c .before .before .before))) (c .under .result)
-  adds-part c =
-      let p = c .before .before .before in
-      part-adds (loopStart (turn (partRow p)) .args .left) (led (partRow p)) (p .before .if4 .left) (p .highest2 .ensures)
-      (p .before .before .part .ensures) (c .before .search .ensures) (c .under .ensures)
+  module _ (p : Part) {v : Tally}
+      (q : let s = loopStart (turn (partRow p)) in
+      v ≡ tallyOf (s .args .limit) (sumCovers (s .args .left - 1)
+      (s .args .rest - getD (s .args .clusters .now) (turn (partRow p) .loop .i - 1) 0)
+      (partsOf (given s) (getD (s .args .starts .now) (p .highest2 .result + 1) 0)))) where
+    pub under-fits : let one = p .before .before .part .result in
+        SFits w64 (one .best +ℤ v .best) × ((one .low + v .low < wordValues) × (one .high + v .high < wordValues))
+    under-fits =
+        under-asks (loopStart (turn (partRow p)) .args .left) (led (partRow p)) (p .before .if2 .left) (p .highest2 .ensures)
+        (p .before .before .part .ensures) q
+
+    pub adds-part : {u : Tally} → u ≡ underTally (loopStart (turn (partRow p)) .args .limit) (p .before .before .part .result) v
+        → Adding (turn (partRow p)) u
+    adds-part e =
+        part-adds (loopStart (turn (partRow p)) .args .left) (led (partRow p)) (p .before .if2 .left) (p .highest2 .ensures)
+        (p .before .before .part .ensures) q e
 
   pub asks : (c : Turn) {u : Tally} → Adding (c .before) u
       → (u .count ≤ loopStart (c .before) .args .limit) × (c .before .loop .sum .tuples + u .tuples < wordValues)
