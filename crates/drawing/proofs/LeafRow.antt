@@ -22,7 +22,8 @@ use lib.Dec.{T, ltb, ltb→lt, lt→ltb}
 use lib.ListN.{length, length-map}
 use Rattle.laws.specs.Cluster.{unionOf}
 use Rattle.laws.specs.Limits.{Width, rowCap}
-use Rattle.laws.specs.Lists.{elem, downTo}
+use Rattle.laws.specs.Lists.{elem}
+use Rattle.laws.specs.Orders.{downTo}
 use Rattle.laws.specs.Row.{Row}
 use Rattle.laws.specs.Widths.{WidthFacts}
 use Rattle.laws.proofs.Appended.{map-through}

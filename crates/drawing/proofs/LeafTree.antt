@@ -19,7 +19,8 @@ use lib.Dec.{T}
 use lib.IntN.{ℤ}
 use lib.ListN.{getD}
 use Rattle.laws.specs.Limits.{Width}
-use Rattle.laws.specs.Lists.{keep, elem, sublists, Falling}
+use Rattle.laws.specs.Lists.{keep, elem, sublists}
+use Rattle.laws.specs.Orders.{Falling}
 use Rattle.laws.specs.State.{scored}
 use Rattle.laws.specs.Row.{Row}
 use Rattle.laws.specs.Widths.{WidthFacts}

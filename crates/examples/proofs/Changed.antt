@@ -8,7 +8,8 @@ use mathlib.Core.Bool.{Bool, true, false, not, cond, _&&_}
 use mathlib.Core.List.{List}
 use Prim.Native.Nat.{ℕ}
 use lib.Dec.{T, eqb, eqb→eq, eqb-refl}
-use Rattle.laws.specs.Lists.{every, elem, places}
+use Rattle.laws.specs.Lists.{every, elem}
+use Rattle.laws.specs.Orders.{places}
 use Rattle.laws.specs.Row.{Row}
 use Rattle.laws.proofs.Down.{every→down}
 use Rattle.laws.proofs.Tests.{T-and, and-T}

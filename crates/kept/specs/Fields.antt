@@ -12,7 +12,8 @@ use lib.Dec.{ltb}
 use lib.ListN.{getD}
 use Rattle.laws.specs.Cluster.{inside}
 use Rattle.laws.specs.Limits.{rowCap, wordValues}
-use Rattle.laws.specs.Lists.{every, places}
+use Rattle.laws.specs.Lists.{every}
+use Rattle.laws.specs.Orders.{places}
 use Rattle.laws.specs.Row.{Row}
 use Rattle.trees.specs.Rows.{Entry}
 use Rattle.trees.specs.Result.{Result}

@@ -11,7 +11,8 @@ use Prim.Native.Nat.{ℕ, suc, _-_}
 use lib.Dec.{leb, ltb}
 use lib.ListN.{getD}
 use Rattle.laws.specs.Limits.{Width, isDegree, rowCap}
-use Rattle.laws.specs.Lists.{every, places}
+use Rattle.laws.specs.Lists.{every}
+use Rattle.laws.specs.Orders.{places}
 use Rattle.cluster.specs.Rule.{keepsRules}
 use Rattle.trees.specs.Rows.{Entry}
 use Rattle.trees.specs.Result.{Result}

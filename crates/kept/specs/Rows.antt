@@ -11,7 +11,8 @@ use Prim.Native.Nat.{ℕ, min}
 use lib.Dec.{eqb}
 use lib.ListN.{getD}
 use Rattle.laws.specs.Cluster.{unionOf}
-use Rattle.laws.specs.Lists.{elem, firstFrom}
+use Rattle.laws.specs.Lists.{elem}
+use Rattle.laws.specs.Orders.{firstFrom}
 use Rattle.laws.specs.Limits.{rowCap}
 use Rattle.kept.specs.declared.table.Table.{Table}
 use Rattle.kept.specs.View.{clustersIn, clustersDown}

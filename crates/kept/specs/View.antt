@@ -12,7 +12,7 @@ use lib.IntN.{pos}
 use lib.ListN.{getD, length}
 use Rattle.laws.specs.Column.{column}
 use Rattle.laws.specs.Limits.{wordValues}
-use Rattle.laws.specs.Lists.{downTo}
+use Rattle.laws.specs.Orders.{downTo}
 use Rattle.laws.specs.Row.{Row}
 use Rattle.trees.specs.Rows.{Entry, cl}
 use Rattle.trees.specs.Result.{Result}

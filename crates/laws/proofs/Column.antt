@@ -13,7 +13,7 @@ use native.Mathlib.Omega.{arith}
 use lib.ListN.{getD, set, length, replicate, length-map, length-reverse, length-replicate, length-append, length-set, List·getD-append}
 use lib.Seq.{ext-getD, getD-append-add, getD-append-seam, getD-set-same, getD-set-other, set-getD}
 use Rattle.laws.specs.Limits.{rowCap}
-use Rattle.laws.specs.Lists.{downTo}
+use Rattle.laws.specs.Orders.{downTo}
 use Rattle.laws.specs.Column.{column}
 use Rattle.laws.proofs.Down.{down-length}
 

@@ -12,7 +12,8 @@ use mathlib.Core.List.{List, [], _∷_, map, Memᴰ·map, Memᴰ·of-map}
 use mathlib.Core.List.{List·Memᴰ as Mem, List·Memᴰ·head as here, List·Memᴰ·tail as there}
 use Prim.Native.Nat.{ℕ, zero, suc, _<_}
 use native.Mathlib.Omega.{arith}
-use Rattle.laws.specs.Lists.{keepIf, keep, Once, Falling}
+use Rattle.laws.specs.Lists.{keepIf, keep, Once}
+use Rattle.laws.specs.Orders.{Falling}
 use Rattle.laws.proofs.Falling.{falling-once}
 use Rattle.laws.proofs.Keep.{mem-of-keep}
 

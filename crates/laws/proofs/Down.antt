@@ -1,4 +1,4 @@
--- What stands in ascending places, the largest first: `downTo` of `specs/Lists.antt`.
+-- What stands in ascending places, the largest first: `downTo` of `specs/Orders.antt`.
 --     down-length, down-ext, down-map     how many; functions that agree below n; a function of each
 --     mem-down, down-mem         what stands there is what the places have
 --     elem-down-iff              a number is one of them, as a test
@@ -16,7 +16,8 @@ use native.Mathlib.Decide.{decLe}
 use native.Mathlib.Omega.{arith}
 use lib.Dec.{T}
 use lib.ListN.{length}
-use Rattle.laws.specs.Lists.{every, elem, Falling, downTo}
+use Rattle.laws.specs.Lists.{every, elem}
+use Rattle.laws.specs.Orders.{Falling, downTo}
 use Rattle.laws.proofs.Keep.{elem→, →elem}
 use Rattle.laws.proofs.Tests.{T-and, and-T}
 

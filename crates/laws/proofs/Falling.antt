@@ -13,7 +13,8 @@ use mathlib.Core.List.{List·Memᴰ as Mem, List·Memᴰ·head as here, List·Me
 use Prim.Native.Nat.{ℕ, _<_}
 use native.Mathlib.Omega.{arith}
 use lib.Dec.{T}
-use Rattle.laws.specs.Lists.{keepIf, keep, elem, sublists, Once, InTurn, Falling}
+use Rattle.laws.specs.Lists.{keepIf, keep, elem, sublists, Once}
+use Rattle.laws.specs.Orders.{InTurn, Falling}
 use Rattle.laws.proofs.Tests.{bool-ext}
 use Rattle.laws.proofs.Keep.{mem-keep, mem-of-keep, elem→, →elem, keep-keep}
 use Rattle.laws.proofs.Once.{once-keep}

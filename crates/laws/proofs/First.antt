@@ -1,4 +1,4 @@
--- The first place that passes a test, `firstFrom` of `specs/Lists.antt`.
+-- The first place that passes a test, `firstFrom` of `specs/Orders.antt`.
 --     first-passed, first-stopped, first-ended     one step of a loop over the places, and its two ends
 --     first-low, first-high     where it lies
 --     first-before, first-at    no place before it passes, and it passes itself where it is one of the places
@@ -13,7 +13,7 @@ use native.Mathlib.Decide.{decLe}
 use native.Mathlib.Numerals.{add-one}
 use native.Mathlib.Omega.{arith}
 use lib.Dec.{T, ltb, ltb→lt, lt→ltb}
-use Rattle.laws.specs.Lists.{firstFrom}
+use Rattle.laws.specs.Orders.{firstFrom}
 
 module _ (p : ℕ → Bool) where
   -- ---- a loop over the places below n

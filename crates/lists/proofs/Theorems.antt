@@ -22,7 +22,7 @@ use native.Mathlib.Omega.{arith}
 use lib.Dec.{T, eqb, ltb, eqb→eq}
 use lib.ListN.{length}
 use Rattle.laws.specs.Limits.{Width}
-use Rattle.laws.specs.Lists.{Falling}
+use Rattle.laws.specs.Orders.{Falling}
 use Rattle.laws.specs.Row.{Row}
 use Rattle.laws.specs.Widths.{WidthFacts}
 use Rattle.laws.proofs.Tests.{T-of-not}

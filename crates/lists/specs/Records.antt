@@ -10,7 +10,7 @@ use mathlib.Core.List.{List}
 use Prim.Native.Nat.{ℕ, _*_, _/_}
 use lib.ListN.{length, take, drop}
 use Rattle.laws.specs.Limits.{Width}
-use Rattle.laws.specs.Lists.{firstFrom}
+use Rattle.laws.specs.Orders.{firstFrom}
 use Rattle.laws.specs.Row.{Row}
 use Rattle.cluster.specs.Record.{rowOf}
 use Rattle.cluster.specs.Reading.{ruleOf}

@@ -13,7 +13,8 @@ use Prim.Native.Nat.{ℕ, _^_, _≤_, _<_}
 use lib.Dec.{T}
 use lib.ListN.{length, take}
 use Rattle.laws.specs.Limits.{Width}
-use Rattle.laws.specs.Lists.{Once, Falling}
+use Rattle.laws.specs.Lists.{Once}
+use Rattle.laws.specs.Orders.{Falling}
 use Rattle.laws.specs.Row.{isScored}
 use Rattle.trees.specs.Tree.{isTree}
 use Rattle.answers.specs.Reasons.{firstReason}

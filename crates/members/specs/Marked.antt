@@ -15,7 +15,8 @@ use lib.IntN.{ℤ, pos, _+ℤ_}
 use lib.ListN.{getD}
 use lib.Signed.{ltZ}
 use Rattle.laws.specs.Column.{column}
-use Rattle.laws.specs.Lists.{keep, every, places}
+use Rattle.laws.specs.Lists.{keep, every}
+use Rattle.laws.specs.Orders.{places}
 use Rattle.laws.specs.State.{scored}
 use Rattle.kept.specs.Marks.{hasMark}
 

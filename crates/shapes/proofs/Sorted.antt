@@ -15,7 +15,8 @@ use Prim.Native.Nat.{ℕ, _<_}
 use native.Mathlib.Omega.{arith}
 use borrow.Author.Tests.{ltb-true, ltb-false}
 use lib.Dec.{T, ltb, ltb→lt, lt→ltb}
-use Rattle.laws.specs.Lists.{every, Once, Same, InTurn, Falling, sortBy}
+use Rattle.laws.specs.Lists.{every, Once, Same}
+use Rattle.laws.specs.Orders.{InTurn, Falling, sortBy}
 use Rattle.laws.proofs.Tests.{T-and, and-T}
 use Rattle.laws.proofs.Keep.{every→, →every}
 use Rattle.laws.proofs.Falling.{falling-once}

@@ -11,7 +11,7 @@ use mathlib.Core.List.{List, [], _∷_}
 use Prim.Native.Nat.{ℕ, zero, suc}
 use lib.Dec.{ltb}
 use Rattle.laws.specs.Cluster.{single, size}
-use Rattle.laws.specs.Lists.{sortBy}
+use Rattle.laws.specs.Orders.{sortBy}
 use Rattle.trees.specs.Tree.{children}
 use Rattle.shapes.specs.Shape.{Shape, taxon, vertex, Shapes, none, more, smallest}
 use Rattle.shapes.specs.Text.{textBytes}

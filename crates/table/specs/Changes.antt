@@ -15,7 +15,7 @@ use lib.Dec.{eqb, ltb}
 use lib.IntN.{ℤ}
 use lib.ListN.{take, drop}
 use Rattle.laws.specs.Limits.{Width}
-use Rattle.laws.specs.Lists.{firstFrom}
+use Rattle.laws.specs.Orders.{firstFrom}
 use Rattle.laws.specs.Row.{Row}
 use Rattle.cluster.specs.Record.{bytesOf}
 use Rattle.cluster.specs.Rule.{isScore}

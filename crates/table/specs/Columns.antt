@@ -9,7 +9,8 @@ use mathlib.Core.List.{List}
 use Prim.Native.Nat.{ℕ, _+_, _*_}
 use lib.IntN.{ℤ, pos}
 use lib.ListN.{getD}
-use Rattle.laws.specs.Lists.{keep, downTo}
+use Rattle.laws.specs.Lists.{keep}
+use Rattle.laws.specs.Orders.{downTo}
 use Rattle.laws.specs.Limits.{wordValues}
 use Rattle.laws.specs.Row.{Row}
 use Rattle.trees.specs.Rows.{Entry, sc}

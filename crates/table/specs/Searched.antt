@@ -11,7 +11,7 @@ use Prim.Native.Nat.{ℕ, suc, _^_, _≤_, _<_}
 use lib.Dec.{T}
 use lib.ListN.{length, getD}
 use Rattle.laws.specs.Cluster.{highest}
-use Rattle.laws.specs.Lists.{Falling}
+use Rattle.laws.specs.Orders.{Falling}
 use Rattle.laws.specs.Limits.{rowCap, wordValues}
 use Rattle.laws.specs.Row.{Row, isScored}
 use Rattle.trees.specs.Result.{Result}

@@ -21,7 +21,8 @@ use lib.IntN.{ℤ}
 use lib.ListN.{length}
 use lib.Signed.{ltZ}
 use Rattle.laws.specs.Limits.{Width}
-use Rattle.laws.specs.Lists.{sublists, Falling}
+use Rattle.laws.specs.Lists.{sublists}
+use Rattle.laws.specs.Orders.{Falling}
 use Rattle.laws.specs.Row.{Row}
 use Rattle.laws.proofs.Integers.{ltZ-trans, ltZ-irrefl}
 use Rattle.trees.specs.Rows.{clustersOf, scoredIn, Entry, RowFacts}

@@ -11,7 +11,8 @@ use mathlib.Core.List.{List, map}
 use mathlib.Core.List.{List·Memᴰ as Mem}
 use Prim.Native.Nat.{ℕ, _^_, _<_}
 use Rattle.laws.specs.Row.{Row, isScored}
-use Rattle.laws.specs.Lists.{keep, Falling}
+use Rattle.laws.specs.Lists.{keep}
+use Rattle.laws.specs.Orders.{Falling}
 
 abbrev pub clustersOf : List Row → List ℕ
 clustersOf rs = map (λ (r : Row). r .cluster) rs

@@ -18,7 +18,7 @@ use borrow.Author.Tests.{le-leb, lt-leb}
 use lib.Dec.{T, leb, leb→le, le→leb}
 use lib.ListN.{getD}
 use Rattle.laws.specs.Limits.{Width, isDegree, rowCap}
-use Rattle.laws.specs.Lists.{Falling}
+use Rattle.laws.specs.Orders.{Falling}
 use Rattle.laws.specs.Row.{Row}
 use Rattle.laws.specs.Widths.{WidthFacts}
 use Rattle.laws.proofs.Down.{mem-down, every→down, down→every, down-passed, down-stopped, falling-down, down-falling}

@@ -16,7 +16,7 @@ use borrow.Author.Tests.{eq-eqb, ne-eqb, lt-ltb, le-ltb}
 use lib.Dec.{eqb, ltb}
 use lib.ListN.{length, getD}
 use Rattle.laws.specs.Limits.{Width, narrow}
-use Rattle.laws.specs.Lists.{firstFrom}
+use Rattle.laws.specs.Orders.{firstFrom}
 use Rattle.laws.specs.Row.{Row}
 use Rattle.laws.proofs.Down.{down-ext}
 use Rattle.laws.proofs.First.{first-high}

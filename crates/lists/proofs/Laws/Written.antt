@@ -18,7 +18,7 @@ use lib.Dec.{T}
 use lib.ListN.{length, take, length-append}
 use lib.Seq.{drop-at, take-all}
 use Rattle.laws.specs.Limits.{Width}
-use Rattle.laws.specs.Lists.{Falling, downTo}
+use Rattle.laws.specs.Orders.{Falling, downTo}
 use Rattle.laws.specs.Row.{Row}
 use Rattle.laws.specs.Widths.{WidthFacts}
 use Rattle.laws.proofs.Down.{down-map, down-ext, falling-down}

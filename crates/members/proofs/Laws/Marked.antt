@@ -13,7 +13,8 @@ use Prim.Native.Nat.{ℕ, _+_, _<_}
 use native.Mathlib.Numerals.{add-one}
 use lib.Dec.{T}
 use lib.ListN.{getD}
-use Rattle.laws.specs.Lists.{every, Falling, places}
+use Rattle.laws.specs.Lists.{every}
+use Rattle.laws.specs.Orders.{Falling, places}
 use Rattle.laws.specs.State.{scored}
 use Rattle.laws.proofs.Appended.{mem-of-reverse}
 use Rattle.laws.proofs.Down.{mem-down, down-falling}

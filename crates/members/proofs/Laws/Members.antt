@@ -12,7 +12,8 @@ use native.Mathlib.Nat.{min-le-left, lt-of-lt-of-le}
 use lib.Dec.{T}
 use lib.ListN.{getD}
 use Rattle.laws.specs.Limits.{Width, rowCap}
-use Rattle.laws.specs.Lists.{Once, Falling}
+use Rattle.laws.specs.Lists.{Once}
+use Rattle.laws.specs.Orders.{Falling}
 use Rattle.laws.specs.Row.{isScored}
 use Rattle.laws.specs.State.{scored}
 use Rattle.laws.specs.Widths.{WidthFacts}

@@ -11,7 +11,8 @@ use Prim.Native.Nat.{ℕ, _<_}
 use lib.Dec.{T}
 use lib.IntN.{ℤ, pos, _+ℤ_}
 use lib.ListN.{getD}
-use Rattle.laws.specs.Lists.{keepIf, keep, downTo, places}
+use Rattle.laws.specs.Lists.{keepIf, keep}
+use Rattle.laws.specs.Orders.{downTo, places}
 use Rattle.laws.specs.Row.{Row}
 use Rattle.laws.specs.State.{scored}
 use Rattle.laws.proofs.Appended.{map-through}

@@ -15,7 +15,7 @@ use lib.Dec.{T}
 use lib.ListN.{length}
 use Rattle.laws.specs.Cluster.{inside}
 use Rattle.laws.specs.Limits.{Width}
-use Rattle.laws.specs.Lists.{Falling}
+use Rattle.laws.specs.Orders.{Falling}
 use Rattle.laws.specs.Row.{Row}
 use Rattle.laws.specs.Widths.{few}
 use Rattle.laws.proofs.Choose.{few-mono}

@@ -18,7 +18,7 @@ use lib.IntN.{ℤ}
 use lib.ListN.{length, length-map}
 use Rattle.laws.specs.Cluster.{inside}
 use Rattle.laws.specs.Limits.{Width, isDegree}
-use Rattle.laws.specs.Lists.{Falling}
+use Rattle.laws.specs.Orders.{Falling}
 use Rattle.laws.specs.Row.{Row}
 use Rattle.laws.specs.Widths.{WidthFacts}
 use Rattle.laws.proofs.Appended.{map-through}

@@ -21,7 +21,8 @@ use lib.ListN.{length, length-map}
 use lib.Pow.{pow-pos}
 use Rattle.laws.specs.Cluster.{inside, single}
 use Rattle.laws.specs.Limits.{Width, weightMax}
-use Rattle.laws.specs.Lists.{keep, Falling}
+use Rattle.laws.specs.Lists.{keep}
+use Rattle.laws.specs.Orders.{Falling}
 use Rattle.laws.specs.Row.{Row, isScored}
 use Rattle.laws.specs.Widths.{few}
 use Rattle.laws.proofs.Choose.{few-mono}

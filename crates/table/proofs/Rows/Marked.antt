@@ -16,7 +16,7 @@ use native.Mathlib.Omega.{arith}
 use lib.Dec.{T, eqb, eqb→eq, eqb-refl, T-not, not-T, lit<}
 use lib.ListN.{length}
 use lib.Pow.{mod-pow-add}
-use Rattle.laws.specs.Lists.{Falling}
+use Rattle.laws.specs.Orders.{Falling}
 use Rattle.laws.proofs.Tests.{T-and, and-T, T-or, or-l, or-r, T-dec, T-true, T-false}
 use Rattle.trees.specs.Result.{marksIn}
 use Rattle.trees.proofs.Ties.Marks.{marks-ext}

@@ -67,7 +67,12 @@ module _ {W : Width} {k : Columns} {starts : List ℕ} {z : ℤ} {i d : ℕ} (R 
 
   pub searchable : Searchable limit k starts i C
   searchable = record {
-    readable = record { cs = cs; capped = omega (arith, R .place, R .capped); sound = R .sound; words = λ j h. R .words j (omega (arith, R .place)) };
+    readable = record {
+      cs = cs;
+      capped = omega (arith, R .place, R .capped);
+      sound = R .sound;
+      words = λ j h. R .words j (omega (arith, R .place));
+    };
     rows = R .rows;
     within = omega (arith, R .place);
     capped = R .capped;

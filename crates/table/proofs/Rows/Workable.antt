@@ -20,7 +20,7 @@ use mir.Syntax.{w32}
 use mir.Val.{SFits}
 use Rattle.laws.specs.Cluster.{inside}
 use Rattle.laws.specs.Limits.{Width, wordValues}
-use Rattle.laws.specs.Lists.{Falling}
+use Rattle.laws.specs.Orders.{Falling}
 use Rattle.laws.specs.Row.{Row}
 use Rattle.laws.specs.Widths.{WidthFacts, few}
 use Rattle.laws.proofs.Width.{degree-range}

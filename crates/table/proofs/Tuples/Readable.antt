@@ -50,7 +50,12 @@ module _ (limit : ℕ) (k : Columns) (m n : ℕ) (h : m ≤ n) where
   }
 
   pub readable-fewer : Readable limit k n → Readable limit k m
-  readable-fewer r = record { cs = r .cs; capped = omega (arith, r .capped); sound = sound-fewer (r .cs) (r .sound); words = λ i l. r .words i (omega arith) }
+  readable-fewer r = record {
+    cs = r .cs;
+    capped = omega (arith, r .capped);
+    sound = sound-fewer (r .cs) (r .sound);
+    words = λ i l. r .words i (omega arith);
+  }
 
 -- ---- the rows as parts
 
@@ -71,7 +76,8 @@ module _ {limit : ℕ} {k : Columns} {cs : List ℕ} {n : ℕ} (s : Sound limit 
       let q = mem-down (partAt k) n e m in
       rw (q .2) (part-keeps b (q .0) (q .1) (top (q .0) (q .1)) (subst (λ (x : Entry Res). T (sc x)) (q .2) t))
 
-  pub part-is : WordsIn (k .lows) n → (i : ℕ) → i < n → T (isScored (columnRow k i)) → partTally k i ≡ tallyOf limit (1, decoded (fieldsOf k i))
+  pub part-is : WordsIn (k .lows) n → (i : ℕ) → i < n → T (isScored (columnRow k i))
+      → partTally k i ≡ tallyOf limit (1, decoded (fieldsOf k i))
   part-is w i h t =
       fields-tally limit cs (columnRow k i) (fieldsOf k i) (s .good i h t) 1 (getD (k .lows) i 0) (getD (k .highs) i 0) (w i h) refl
 

@@ -20,7 +20,8 @@ use lib.Dec.{T, leb, leb→le}
 use lib.ListN.{length, getD, set, replicate, length-set, length-replicate, getD-replicate}
 use lib.Pow.{pow-mono}
 use lib.Seq.{getD-set-same, getD-set-other}
-use Rattle.laws.specs.Lists.{keepIf, keep, downTo}
+use Rattle.laws.specs.Lists.{keepIf, keep}
+use Rattle.laws.specs.Orders.{downTo}
 use Rattle.laws.proofs.Descends.{Descends, descends-of-falling}
 use Rattle.laws.proofs.Down.{down-map, mem-down, down-falling}
 use Rattle.laws.proofs.Tests.{T-false}

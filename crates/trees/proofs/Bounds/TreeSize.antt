@@ -16,7 +16,8 @@ use lib.Dec.{T, T-not}
 use lib.IntN.{natAbs, +ℤ-idr}
 use lib.ListN.{length}
 use Rattle.laws.specs.Cluster.{size}
-use Rattle.laws.specs.Lists.{keep, Falling}
+use Rattle.laws.specs.Lists.{keep}
+use Rattle.laws.specs.Orders.{Falling}
 use Rattle.laws.specs.Row.{Row}
 use Rattle.laws.proofs.Falling.{sublist-is-elem}
 use Rattle.laws.proofs.Integers.{abs-sum-le}

@@ -16,7 +16,8 @@ use lib.Dec.{T, eqb→eq}
 use lib.IntN.{pos}
 use lib.ListN.{length}
 use Rattle.laws.specs.Cluster.{inside, single}
-use Rattle.laws.specs.Lists.{keep, Falling}
+use Rattle.laws.specs.Lists.{keep}
+use Rattle.laws.specs.Orders.{Falling}
 use Rattle.laws.specs.Row.{Row, isScored}
 use Rattle.laws.proofs.Tests.{T-or}
 use Rattle.laws.proofs.Cluster.{inside-antisym, zero-of-apart, apart-of-inside}

@@ -18,7 +18,8 @@ use native.Mathlib.Omega.{arith}
 use lib.Dec.{T, eqb}
 use lib.ListN.{length, length-map}
 use Rattle.laws.specs.Cluster.{inside, strict}
-use Rattle.laws.specs.Lists.{keepIf, keep, every, sublists, Falling}
+use Rattle.laws.specs.Lists.{keepIf, keep, every, sublists}
+use Rattle.laws.specs.Orders.{Falling}
 use Rattle.laws.specs.Row.{Row, isScored}
 use Rattle.laws.proofs.Falling.{falling-above}
 use Rattle.laws.proofs.Tests.{T-and, and-T, bool-ext, neq→, →neq}

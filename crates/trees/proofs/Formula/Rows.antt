@@ -12,7 +12,8 @@ use mathlib.Core.List.{List, [], _∷_, map, Memᴰ·map, Memᴰ·of-map}
 use mathlib.Core.List.{List·Memᴰ as Mem, List·Memᴰ·head as here, List·Memᴰ·tail as there, List·Memᴰ·not-nil as mem-nil}
 use Prim.Native.Nat.{ℕ, _^_, _<_}
 use lib.Dec.{T}
-use Rattle.laws.specs.Lists.{keep, Once, Falling}
+use Rattle.laws.specs.Lists.{keep, Once}
+use Rattle.laws.specs.Orders.{Falling}
 use Rattle.laws.specs.Row.{Row, isScored}
 use Rattle.laws.proofs.Falling.{falling-once}
 use Rattle.laws.proofs.Keep.{mem-keep, mem-of-keep}

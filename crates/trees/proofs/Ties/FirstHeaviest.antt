@@ -20,7 +20,8 @@ use mathlib.Core.List.{List·Memᴰ as Mem, List·Memᴰ·head as here, List·Me
 use Prim.Native.Nat.{ℕ}
 use lib.Dec.{T}
 use lib.Signed.{ltZ}
-use Rattle.laws.specs.Lists.{sublists, Falling}
+use Rattle.laws.specs.Lists.{sublists}
+use Rattle.laws.specs.Orders.{Falling}
 use Rattle.laws.specs.Row.{Row, isScored}
 use Rattle.laws.proofs.Falling.{falling-once, sublist-trans}
 use Rattle.laws.proofs.Sublists.{sublists-map-keep}

@@ -19,7 +19,8 @@ use lib.Dec.{T, eqb, eqb→eq, eqb-refl}
 use lib.IntN.{ℤ, pos, _+ℤ_, +ℤ-assoc, +ℤ-idr}
 use lib.ListN.{length}
 use lib.Pow.{pow-pos, pow-mono, pow-add}
-use Rattle.laws.specs.Lists.{keep, elem, sublists, Once, Falling}
+use Rattle.laws.specs.Lists.{keep, elem, sublists, Once}
+use Rattle.laws.specs.Orders.{Falling}
 use Rattle.laws.specs.Row.{Row}
 use Rattle.laws.proofs.Falling.{elem-keep, sublist-is-elem}
 use Rattle.laws.proofs.Integers.{add-swap}

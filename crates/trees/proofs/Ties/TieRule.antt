@@ -16,7 +16,8 @@ use native.Mathlib.Nat.{le-antisymm, le-max-left, le-max-right, max-le}
 use native.Mathlib.Omega.{arith}
 use lib.Dec.{T, T-not, not-T, ltb, ltb→lt, lt→ltb}
 use lib.ListN.{length}
-use Rattle.laws.specs.Lists.{keep, elem, sublists, Falling}
+use Rattle.laws.specs.Lists.{keep, elem, sublists}
+use Rattle.laws.specs.Orders.{Falling}
 use Rattle.laws.proofs.Falling.{falling-once, sublist-is-elem}
 use Rattle.laws.proofs.Keep.{mem-keep, mem-of-keep, elem→, →elem}
 use Rattle.laws.proofs.Tests.{T-dec, T-true, T-false}

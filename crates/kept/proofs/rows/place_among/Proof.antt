@@ -7,7 +7,7 @@ use Prim.Native.Nat.{ℕ, _-_, _≤_}
 use native.Mathlib.Nat.{sub-zero}
 use native.Mathlib.Omega.{arith}
 use denote.Ref.{now}
-use Rattle.laws.specs.Lists.{firstFrom}
+use Rattle.laws.specs.Orders.{firstFrom}
 use Rattle.laws.proofs.First.{first-passed, first-stopped, first-ended}
 use Rattle.kept.specs.Rows.{placeAmong}
 use Rattle.kept.proofs.Laws.Rows.{isClusterAt}

@@ -1,74 +1,24 @@
--- `table::working::again` meets its contract. The invariant: the results of the first i rows are the given ones worked out again, and the
--- rest is as given. The measure is the rows left. Assumes nothing.
+-- `table::working::again` meets its contract. The invariant: the results of the first rows are the given ones worked out again, and the
+-- rest is as given. The measure is the rows left. The places in the code: `proofs.working.again.Proof.Places.antt`. Assumes nothing.
 use mathlib.Core.Path.{refl, sym, ap, _∙_}
-use mathlib.Core.List.{List}
-use Prim.Native.Nat.{ℕ, _-_, _<_}
 use native.Mathlib.Omega.{arith}
 use borrow.Author.Needs.{needs}
-use lib.IntN.{ℤ, pos}
-use lib.ListN.{getD}
+use lib.IntN.{ℤ}
 use mir.Facts.{toZ-ofZ}
-use mir.Syntax.{w32, w64}
+use mir.Syntax.{w64}
 use mir.Val.{SFits}
-use Rattle.laws.specs.Limits.{narrow, rowCap}
+use Rattle.laws.specs.Limits.{narrow}
 use Rattle.laws.proofs.Width.{narrow-facts}
-use Rattle.kept.specs.declared.table.Table.{Table}
 use Rattle.table.specs.Columns.{columnsOf}
-use Rattle.table.specs.Tables.{tableIn}
 use Rattle.table.specs.Working.{workedTally}
-use Rattle.table.proofs.Rows.AgainRow.{Partly, ready-row, weight-at}
+use Rattle.table.proofs.Rows.AgainRow.{ready-row}
 use Rattle.table.proofs.Rows.Workable.{cluster-word}
 use Rattle.table.proofs.Rows.AgainLoop.{partly-start, partly-skip, partly-store, partly-end}
+use Rattle.table.proofs.working.again.Proof.Places.{Inv-loop, μ-loop, start, in-loop, row, rowsAt}
+use Rattle.table.proofs.working.again.Proof.Places.{room, stored-room, known-room, weight-fits}
 use Rattle.table.proofs.working.again.Statement.{statement}
 use Rattle.table.proofs.working.again.Tie as tie
-
-abbrev Inv-loop : tie.InvT-loop
-Inv-loop clusters weights states lengths₀ counts₀ marks₀ bests₀ lows₀ highs₀ n degree cluster starts next₀
-    lengths counts marks bests lows highs next =
-    let columns = tableIn n degree clusters weights states in
-    Partly narrow (columns lengths₀ counts₀ marks₀ bests₀ lows₀ highs₀) cluster (columns lengths counts marks bests lows highs) next
-
-abbrev μ-loop : tie.MeasureT-loop
-μ-loop clusters weights states lengths₀ counts₀ marks₀ bests₀ lows₀ highs₀ n degree cluster starts next₀
-    lengths counts marks bests lows highs next =
-    n - next
-
--- ---- places
-
-abbrev start : tie.At-loop Inv-loop μ-loop → tie.Start Inv-loop μ-loop
-start c = c .before .before .before
-
--- the row that is worked out
-abbrev in-loop : tie.Then1 Inv-loop μ-loop → tie.In-loop Inv-loop μ-loop
-in-loop c = c .before .before .before
-
-abbrev row : tie.After-starts2 Inv-loop μ-loop → tie.Then1 Inv-loop μ-loop
-row c = let lent = c .before .before .before .before in lent .before .before .before
-
--- ---- the columns there
-
--- those that stay, and any results
-abbrev columnsWith : tie.Start Inv-loop μ-loop → List ℕ → List ℕ → List ℕ → List ℤ → List ℕ → List ℕ → Table
-columnsWith s = let a = s .args in tableIn (a .n) (a .degree) (a .clusters .now) (a .weights .now) (a .states .now)
-
-abbrev rowsAt : tie.At-loop Inv-loop μ-loop → Table
-rowsAt c = let l = c .loop in columnsWith (start c) (l .lengths) (l .counts) (l .marks) (l .bests) (l .lows) (l .highs)
-
-room : (c : tie.In-loop Inv-loop μ-loop) → c .before .loop .next < rowCap
-room c = omega (arith, c .loop-test .taken, start (c .before) .pre .capped)
-
-weight-fits : (c : tie.In-loop Inv-loop μ-loop) → SFits w32 (getD (rowsAt (c .before) .weights) (c .before .loop .next) (pos 0))
-weight-fits c =
-    let at-loop = c .before in
-    weight-at narrow-facts (start at-loop .pre) (at-loop .loop .inv) (c .loop-test .taken)
-
-stored-room : (c : tie.After-struct-told Inv-loop μ-loop) → in-loop (row (c .before .before)) .before .loop .next < rowCap
-stored-room c = room (in-loop (row (c .before .before)))
-
-known-room : (c : tie.After-struct-known Inv-loop μ-loop) → in-loop (row (c .before .before .before)) .before .loop .next < rowCap
-known-room c = stored-room (c .before)
-
--- ---- needs
+mod Places
 
 put-starts-requires : tie.Need-put-starts-requires Inv-loop μ-loop
 put-starts-requires c κs =

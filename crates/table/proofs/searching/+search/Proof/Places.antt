@@ -189,7 +189,8 @@ module _ (t : ℕ) where
       → let p = lookedPart c in
       let s = loopStart (turn (partRow p)) in
       c .last .result
-      ≡ tallyOf (s .args .limit) (sumCovers (s .args .left - 1) (s .args .rest - getD (s .args .clusters .now) (turn (partRow p) .loop .i - 1) 0)
+      ≡ tallyOf (s .args .limit) (sumCovers (s .args .left - 1)
+      (s .args .rest - getD (s .args .clusters .now) (turn (partRow p) .loop .i - 1) 0)
       (partsOf (given s) (getD (s .args .starts .now) (p .highest2 .result + 1) 0)))
   inner-looked c =
       let s = loopStart (turn (partRow (lookedPart c))) in
