@@ -4,8 +4,8 @@
 //     is_word_fit      whether each row that a word marks is there, and lies inside a cluster
 use crate::limits::ROW_CAP;
 use crate::limits::WORD_ROWS;
-use cluster::highest;
 use cluster::is_inside;
+use cluster::lowest;
 ghost use mathlib.Core.Path.{_≡_};
 ghost use Prim.Native.Nat.{_+_, _*_, _≤_};
 ghost use lib.ListN.{length};
@@ -26,7 +26,8 @@ pub fn is_marked(low: u64, high: u64, i: usize) -> bool
     false
 }
 
-// Whether each row that a word marks is one of the first `n` and lies inside `cluster`; bit 0 of the word is row `base`.
+// Whether each row that a word marks is one of the first `n` and lies inside `cluster`; bit 0 of the word is row `base`. The lowest bit goes
+// first: taking it away needs no count of where it stood.
 pub(crate) fn is_word_fit(clusters: &[u64], n: usize, base: usize, word: u64, cluster: u64) -> bool
     requires { ⌜ n ≤ length (now clusters) ⌝ }
     requires { ⌜ base ≤ 64 ⌝ }
@@ -34,7 +35,7 @@ pub(crate) fn is_word_fit(clusters: &[u64], n: usize, base: usize, word: u64, cl
 {
     let mut rest = word;
     while rest != 0 {
-        let bit = highest(rest);
+        let bit = lowest(rest);
         let j = base + bit as usize;
         if n <= j {
             return false;

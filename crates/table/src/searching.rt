@@ -2,6 +2,7 @@
 // left fall. Cites `specs/Searched.antt`.
 //     place_below     how many of the first rows have a smaller cluster, by bisection
 //     put_starts      where the rows of each highest taxon start
+//     counted         a start as rows are counted
 //     wide            a mark as a tally has it
 //     part            a row as one part of a tuple
 //     last            the one cover of a cluster by one row
@@ -48,7 +49,7 @@ pub(crate) fn place_below(clusters: &[u64; 128], past: usize, n: usize, value: u
 }
 
 // For each taxon, how many of the first `n` rows lie below it, among them those below the taxon before; the last start stays `n`.
-pub(crate) fn put_starts(starts: &mut [usize; 65], clusters: &[u64; 128], n: usize)
+pub(crate) fn put_starts(starts: &mut [u8; 65], clusters: &[u64; 128], n: usize)
     requires { ⌜ now starts ≡ replicate 65 n ⌝ }
     requires { ⌜ n ≤ rowCap ⌝ }
     requires { ⌜ Rising (now clusters) n ⌝ }
@@ -59,9 +60,16 @@ pub(crate) fn put_starts(starts: &mut [usize; 65], clusters: &[u64; 128], n: usi
     let mut taxon: usize = 0;
     while taxon < 64 {
         past = place_below(clusters, past, n, 1u64 << taxon);
-        starts[taxon] = past;
+        starts[taxon] = past as u8;
         taxon += 1;
     }
+}
+
+// A start as rows are counted; a byte holds it, because 65 of them are filled for each table.
+fn counted(start: u8) -> usize
+    ensures { λ r. ⌜ r ≡ start ⌝ }
+{
+    start as usize
 }
 
 // A mark as a tally has it.
@@ -152,7 +160,7 @@ pub(crate) fn search<'a>(
     bests: &'a [i64; 128],
     lows: &'a [u64; 128],
     highs: &'a [u64; 128],
-    starts: &'a [usize; 65],
+    starts: &'a [u8; 65],
     end: usize,
     rest: u64,
     left: u32,
@@ -165,7 +173,7 @@ pub(crate) fn search<'a>(
         (columns (now (clusters .entry)) (now (states .entry)) (now (counts .entry)) (now (marks .entry))
         (now (bests .entry)) (now (lows .entry)) (now (highs .entry))) end)) ⌝ }
 {
-    let start = starts[highest(rest) as usize];
+    let start = counted(starts[highest(rest) as usize]);
     let mut sum = none();
     let mut i = end;
     while start < i {
@@ -177,9 +185,9 @@ pub(crate) fn search<'a>(
                 sum = plus(sum, one, limit);
             } else {
                 let top = highest(other) as usize;
-                let next = starts[top + 1];
+                let next = counted(starts[top + 1]);
                 if left == 2 {
-                    let begin = starts[top];
+                    let begin = counted(starts[top]);
                     let inner = last(
                         clusters,
                         states,

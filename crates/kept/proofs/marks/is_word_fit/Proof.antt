@@ -8,10 +8,12 @@ use Prim.Native.Nat.{_^_, _≤_, _<_}
 use native.Mathlib.Omega.{arith}
 use denote.Ref.{now}
 use lib.Pow.{pow-pos}
-use Rattle.laws.proofs.Taxa.{highest-le}
+use Rattle.laws.specs.Cluster.{lowest}
+use Rattle.laws.proofs.Cluster.{le-of-inside}
+use Rattle.laws.proofs.Lowest.{lowest-in}
 use Rattle.laws.proofs.Tests.{passed, failed}
 use Rattle.kept.specs.Fields.{everyBit, isMarkFit}
-use Rattle.kept.proofs.Laws.Marks.{Marked, mark-highest, mark-lt, shifted}
+use Rattle.kept.proofs.Laws.Marks.{Marked, marked→, →marked, mark-lt, shifted}
 use Rattle.kept.proofs.Laws.Words.{everyBit-none, everyBit-fails, everyBit-drop}
 use Rattle.kept.proofs.marks.is_word_fit.Statement.{statement}
 use Rattle.kept.proofs.marks.is_word_fit.Tie as tie
@@ -28,18 +30,23 @@ loop-holds : tie.Need-loop-holds Inv-loop μ-loop
 loop-holds c = (omega arith, refl)
 
 -- ---- places
-abbrev at-bit : tie.After-is-inside Inv-loop μ-loop → tie.After-highest Inv-loop μ-loop
+abbrev at-bit : tie.After-is-inside Inv-loop μ-loop → tie.After-lowest Inv-loop μ-loop
 at-bit c = c .before .before .before
 
--- ---- the highest set bit
-bit-set : (c : tie.After-highest Inv-loop μ-loop) → Marked (c .before .before .loop .rest) (c .highest .result)
-bit-set c = rw (c .highest .ensures) (mark-highest (c .before .before .loop .rest) (omega arith))
+-- ---- the lowest set bit
+rest-word : (c : tie.After-lowest Inv-loop μ-loop) → c .before .before .loop .rest < 2 ^ 64
+rest-word c = omega arith
 
-bit-lt : (c : tie.After-highest Inv-loop μ-loop) → c .highest .result < 64
-bit-lt c = mark-lt 64 (c .before .before .loop .rest) (c .highest .result) (omega arith) (bit-set c)
+bit-set : (c : tie.After-lowest Inv-loop μ-loop) → Marked (c .before .before .loop .rest) (c .lowest .result)
+bit-set c =
+    let rest = c .before .before .loop .rest in
+    rw (c .lowest .ensures) (→marked rest (lowest 64 rest) (lowest-in 64 rest (rest-word c) (λ e. omega arith)))
 
-bit-le : (c : tie.After-highest Inv-loop μ-loop) → 2 ^ c .highest .result ≤ c .before .before .loop .rest
-bit-le c = rw (c .highest .ensures) (highest-le (c .before .before .loop .rest) (omega arith))
+bit-lt : (c : tie.After-lowest Inv-loop μ-loop) → c .lowest .result < 64
+bit-lt c = mark-lt 64 (c .before .before .loop .rest) (c .lowest .result) (omega arith) (bit-set c)
+
+bit-le : (c : tie.After-lowest Inv-loop μ-loop) → 2 ^ c .lowest .result ≤ c .before .before .loop .rest
+bit-le c = le-of-inside _ _ (marked→ _ _ (bit-set c))
 
 returns : tie.Need-returns Inv-loop μ-loop
 returns c =
@@ -47,8 +54,8 @@ returns c =
     let at-loop = bit .before .before in
     let a = at-loop .before .before .args in
     let p = isMarkFit (now (a .clusters)) (a .n) (a .cluster) (a .base) in
-    let past : p (bit .highest .result) ≡ false = rw (le-ltb _ _ (c .if1 .taken)) in
-    sym (at-loop .loop .inv .1 ∙ everyBit-fails 64 p (at-loop .loop .rest) (bit .highest .result) (bit-lt bit) (bit-set bit) past)
+    let past : p (bit .lowest .result) ≡ false = rw (le-ltb _ _ (c .if1 .taken)) in
+    sym (at-loop .loop .inv .1 ∙ everyBit-fails 64 p (at-loop .loop .rest) (bit .lowest .result) (bit-lt bit) (bit-set bit) past)
 
 returns-2 : tie.Need-returns-2 Inv-loop μ-loop
 returns-2 c =
@@ -57,8 +64,8 @@ returns-2 c =
     let a = at-loop .before .before .args in
     let p = isMarkFit (now (a .clusters)) (a .n) (a .cluster) (a .base) in
     let outside = failed (c .before .is-inside .ensures) (c .if2 .taken) in
-    let fails : p (bit .highest .result) ≡ false = rw (lt-ltb _ _ (c .before .before .before .if1 .left), outside) in
-    sym (at-loop .loop .inv .1 ∙ everyBit-fails 64 p (at-loop .loop .rest) (bit .highest .result) (bit-lt bit) (bit-set bit) fails)
+    let fails : p (bit .lowest .result) ≡ false = rw (lt-ltb _ _ (c .before .before .before .if1 .left), outside) in
+    sym (at-loop .loop .inv .1 ∙ everyBit-fails 64 p (at-loop .loop .rest) (bit .lowest .result) (bit-lt bit) (bit-set bit) fails)
 
 sub-rest : tie.Need-sub-rest Inv-loop μ-loop
 sub-rest c = let bit = at-bit (c .before) in rw (shifted _ (bit-lt bit)) (bit-le bit)
@@ -66,7 +73,7 @@ sub-rest c = let bit = at-bit (c .before) in rw (shifted _ (bit-lt bit)) (bit-le
 loop-less : tie.Need-loop-less Inv-loop μ-loop
 loop-less c =
     let bit = at-bit (c .before) in
-    rw (shifted _ (bit-lt bit)) (omega (arith, bit-le bit, pow-pos (bit .highest .result)))
+    rw (shifted _ (bit-lt bit)) (omega (arith, bit-le bit, pow-pos (bit .lowest .result)))
 
 loop-again : tie.Need-loop-again Inv-loop μ-loop
 loop-again c =
@@ -75,9 +82,9 @@ loop-again c =
     let a = at-loop .before .before .args in
     let p = isMarkFit (now (a .clusters)) (a .n) (a .cluster) (a .base) in
     let within = passed (c .before .is-inside .ensures) (c .if2 .left) in
-    let passes : p (bit .highest .result) ≡ true = rw (lt-ltb _ _ (c .before .before .before .if1 .left), within) in
+    let passes : p (bit .lowest .result) ≡ true = rw (lt-ltb _ _ (c .before .before .before .if1 .left), within) in
     rw (shifted _ (bit-lt bit))
-    (omega arith, at-loop .loop .inv .1 ∙ everyBit-drop 64 p (at-loop .loop .rest) (bit .highest .result) (bit-set bit) passes)
+    (omega arith, at-loop .loop .inv .1 ∙ everyBit-drop 64 p (at-loop .loop .rest) (bit .lowest .result) (bit-set bit) passes)
 
 returns-3 : tie.Need-returns-3 Inv-loop μ-loop
 returns-3 c =

@@ -10,9 +10,9 @@ use Rattle.laws.proofs.Cluster.{le-of-inside}
 use Rattle.laws.proofs.Tests.{true-T}
 use Rattle.table.proofs.Tuples.Searchable.{start-past}
 use Rattle.table.proofs.Tuples.Running.{running-all, running-ended, running-skipped, running-added}
-use Rattle.table.proofs.searching.+search.Proof.Places.{μ-search, search-at, claims, Inv, μ, reached, loopStart, tested, turn}
-use Rattle.table.proofs.searching.+search.Proof.Places.{partRow, lookedPart, foundPart, asked, place, start-is, room, led}
-use Rattle.table.proofs.searching.+search.Proof.Places.{next-small, inner, inner-looked, adds-whole, under-fits, adds-part, asks}
+use Rattle.table.proofs.searching.+search.Proof.Places.{μ-search, search-at, claims, Inv, μ, reached, tested}
+use Rattle.table.proofs.searching.+search.Proof.Places.{nextPart, nextRow, lookedNext, foundNext, asked, place, start-is, room, led}
+use Rattle.table.proofs.searching.+search.Proof.Places.{next-small, outer, inner, inner-looked, adds-whole, under-fits, adds-part, asks}
 use Rattle.table.proofs.searching.search.Reads as search′
 use Rattle.table.proofs.searching.+search.Lts-search as search-lts
 use Rattle.table.proofs.searching.+search.Tie.{close}
@@ -22,9 +22,9 @@ mod Places
 module _ (t : ℕ) where
   loop-holds : search-lts.Need-loop-holds (claims t) (search-at t) search′.Post Inv μ
   loop-holds c =
-      let found = c .before .before in
+      let found = c .before .before .before in
       let s = reached t found in
-      running-all (asked t s) (s .pre .1 .1 .0) (start-is t found) (c .none .ensures)
+      running-all (asked t s) (s .pre .1 .1 .0) (c .before .counted .ensures ∙ start-is t found) (c .none .ensures)
 
   -- ---- the row is all of what is left
 
@@ -37,37 +37,38 @@ module _ (t : ℕ) where
 
   last-requires : search-lts.Need-last-requires (claims t) (search-at t) search′.Post Inv μ
   last-requires c κs =
-      let p = c .before .before .before in
-      let starts = loopStart t (turn t (partRow t p)) .args .starts .now in
-      let q = inner t p in
-      (q .readable, (q .nonzero, start-past q _ (ap (λ (h : ℕ). getD starts h 0) (p .highest2 .ensures))))
+      let n = c .before .before .before in
+      let starts = outer t n .args .starts .now in
+      let q = inner t n in
+      let begin = c .counted3 .ensures ∙ ap (λ (h : ℕ). getD starts h 0) (nextPart t n .highest2 .ensures) in
+      (q .readable, (q .nonzero, start-past q _ begin))
 
   loop-again-2 : search-lts.Need-loop-again-2 (claims t) (search-at t) search′.Post Inv μ
   loop-again-2 c =
       let looked = c .before .before in
-      let p = lookedPart t looked in
-      let at-test = tested t (partRow t p) in
+      let n = lookedNext t looked in
+      let at-test = tested t (nextRow t n) in
       running-added (at-test .before .loop .inv) (at-test .loop-test .taken)
-      (adds-part t p (inner-looked t looked) (c .before .under .ensures)) (c .plus2 .ensures)
+      (adds-part t n (inner-looked t looked) (c .before .under .ensures)) (c .plus2 .ensures)
 
   -- ---- the row is a part of it, and more are left
 
   search-requires : search-lts.Need-search-requires (claims t) (search-at t) search′.Post Inv μ
   search-requires c κs =
-      let p = c .before .before in
-      let s = loopStart t (turn t (partRow t p)) in
+      let n = c .before in
+      let s = outer t n in
       let more = s .pre .1 .1 .0 in (
         omega (arith, s .pre .0, more),
-        (inner t p, (omega (arith, more, c .if3 .left), omega (arith, s .pre .1 .1 .1))),
+        (inner t n, (omega (arith, more, c .if3 .left), omega (arith, s .pre .1 .1 .1))),
       )
 
   loop-again-3 : search-lts.Need-loop-again-3 (claims t) (search-at t) search′.Post Inv μ
   loop-again-3 c =
       let found = c .before .before in
-      let p = foundPart t found in
-      let at-test = tested t (partRow t p) in
+      let n = foundNext t found in
+      let at-test = tested t (nextRow t n) in
       running-added (at-test .before .loop .inv) (at-test .loop-test .taken)
-      (adds-part t p (found .search .ensures) (c .before .under2 .ensures)) (c .plus3 .ensures)
+      (adds-part t n (found .search .ensures) (c .before .under2 .ensures)) (c .plus3 .ensures)
 
   -- ---- a row that adds nothing
 
@@ -80,8 +81,8 @@ pub +search-spec : {M : Type 1} → statement M
 +search-spec = close μ-search λ t. search-lts.spec (claims t) (search-at t) search′.Post Inv μ
     (λ c κs. search needs)
     (λ c. record { fits = omega (arith, place t c) })
-    (λ c. record { fits = omega (arith, place t c) })
     (λ c. omega (arith, place t c))
+    (λ c κs. search needs)
     (λ c κs. search needs)
     (loop-holds t)
     (λ c. omega arith)
@@ -96,22 +97,22 @@ pub +search-spec : {M : Type 1} → statement M
     (λ c κs. search needs)
     (λ c. record { fits = omega (arith, next-small t c) })
     (λ c. record { fits = omega (arith, next-small t c) })
-    (λ c. record { fits = omega (arith, next-small t c) })
     (next-small t)
-    (λ c. record { fits = omega (arith, next-small t (c .before .before)) })
-    (λ c. omega (arith, next-small t (c .before .before)))
+    (λ c κs. search needs)
+    (λ c. omega (arith, next-small t (nextPart t (c .before))))
+    (λ c κs. search needs)
     (last-requires t)
-    (λ c κs. under-fits t (lookedPart t c) (inner-looked t c))
-    (λ c κs. let p = lookedPart t (c .before) in
-    asks t (tested t (partRow t p)) (adds-part t p (inner-looked t (c .before)) (c .under .ensures)))
-    (λ c. let p = lookedPart t (c .before .before) in omega (arith, tested t (partRow t p) .loop-test .taken))
+    (λ c κs. under-fits t (lookedNext t c) (inner-looked t c))
+    (λ c κs. let n = lookedNext t (c .before) in
+    asks t (tested t (nextRow t n)) (adds-part t n (inner-looked t (c .before)) (c .under .ensures)))
+    (λ c. let n = lookedNext t (c .before .before) in omega (arith, tested t (nextRow t n) .loop-test .taken))
     (loop-again-2 t)
-    (λ c. let s = loopStart t (turn t (partRow t (c .before .before))) in omega (arith, s .pre .1 .1 .0))
+    (λ c. omega (arith, outer t (c .before) .pre .1 .1 .0))
     (search-requires t)
-    (λ c κs. under-fits t (foundPart t c) (c .search .ensures))
-    (λ c κs. let p = foundPart t (c .before) in
-    asks t (tested t (partRow t p)) (adds-part t p (c .before .search .ensures) (c .under2 .ensures)))
-    (λ c. let p = foundPart t (c .before .before) in omega (arith, tested t (partRow t p) .loop-test .taken))
+    (λ c κs. under-fits t (foundNext t c) (c .search .ensures))
+    (λ c κs. let n = foundNext t (c .before) in
+    asks t (tested t (nextRow t n)) (adds-part t n (c .before .search .ensures) (c .under2 .ensures)))
+    (λ c. let n = foundNext t (c .before .before) in omega (arith, tested t (nextRow t n) .loop-test .taken))
     (loop-again-3 t)
     (λ c. omega arith)
     (loop-again-4 t)

@@ -67,6 +67,7 @@ again-spec =
     (tie.spec
     Inv-loop
     μ-loop
+    (λ c. omega (arith, c .pre .capped))
     put-starts-requires
     (λ c. partly-start narrow-facts (c .before .before .pre))
     (λ c. omega (arith, room c))

@@ -3,14 +3,15 @@
 --     μ-search, search-at, search-below     the measure of the calls, the children left, and what a call with that many asks
 --     claims                   what the functions that are called ask and tell
 --     Inv, μ                   the loop's invariant and its measure, the rows left
---     reached, loopStart, tested, turn, partRow, lookedPart, foundPart     from one place back to another
+--     reached, loopStart, tested, turn, partRow, nextPart, nextRow, lookedNext, foundNext     from one place back to another
 --     given, asked, room       the columns, what the search may count on, and that the row looked at is one of the 128
 --     place, start-is          before the loop: the highest taxon, and where its rows start
 --     below, led               at a row: it is one of those searched, and it leads what is left
---     inner, inner-looked      what the search of the other part may count on; where one child is left, its sum is the one looked up
---     next-small, adds-whole, adds-looked, adds-part, asks     what the row adds, and that the sums fit
+--     other, outer, inner      what is left, in which call, and what the search of it may count on
+--     innerSum, inner-looked   its sum, by so many rows; where one child is left, it is looked up
+--     next-small, adds-whole, under-fits, adds-part, asks     what the row adds, and that the sums fit
 -- Assumes nothing.
-use mathlib.Core.Path.{_≡_, sym, ap, _∙_}
+use mathlib.Core.Path.{_≡_, sym, ap, _∙_, subst}
 use Prim.Native.Nat.{ℕ, _+_, _-_, _≤_, _<_}
 use native.Mathlib.Omega.{arith}
 use borrow.Fn.Kinds.{In}
@@ -32,6 +33,7 @@ use Rattle.table.specs.Tally.{tallyOf}
 use Rattle.table.proofs.Tuples.Searchable.{taxon-fits}
 use Rattle.table.proofs.Tuples.SearchRow.{Led, Adds, whole-adds, next-place, inner-asks, under-asks, part-adds}
 use Rattle.table.proofs.Tuples.Running.{Running, plus-asks}
+use Rattle.table.proofs.searching.counted.Reads as counted-reads
 use Rattle.table.proofs.searching.is_part.Reads as is-part-reads
 use Rattle.table.proofs.searching.last.Reads as last-reads
 use Rattle.table.proofs.searching.part.Reads as part-reads
@@ -59,6 +61,8 @@ abbrev pub claims : ℕ → search-lts.Claims
 claims t = (
   highest-reads.Asked,
   highest-reads.Learnt,
+  counted-reads.Asked,
+  counted-reads.Learnt,
   none-reads.Asked,
   none-reads.Learnt,
   is-part-reads.Asked,
@@ -106,6 +110,9 @@ module _ (t : ℕ) where
   abbrev pub Part : Type 0
   Part = search-lts.After-highest2 (claims t) (search-at t) search′.Post Inv μ
 
+  abbrev pub Next : Type 0
+  Next = search-lts.After-counted2 (claims t) (search-at t) search′.Post Inv μ
+
   abbrev pub Looked : Type 0
   Looked = search-lts.After-last (claims t) (search-at t) search′.Post Inv μ
 
@@ -117,7 +124,7 @@ module _ (t : ℕ) where
   reached c = c .before
 
   abbrev pub loopStart : Loop → Start
-  loopStart c = reached (c .before .before .before)
+  loopStart c = let counted = c .before .before in reached (counted .before .before)
 
   -- back to the loop's test and head, from where a row is a part
   abbrev pub tested : Row → Turn
@@ -126,15 +133,22 @@ module _ (t : ℕ) where
   abbrev pub turn : Row → Loop
   turn c = tested c .before
 
-  -- to there from the highest taxon that it leaves; and to that, from where the last child is looked up and from where others are found
+  -- to there from the highest taxon that it leaves, and from where the rows for it end; and to that, from where the last child is looked up
+  -- and from where others are found
   abbrev pub partRow : Part → Row
   partRow c = c .before .before .before .before
 
-  abbrev pub lookedPart : Looked → Part
-  lookedPart c = c .before .before .before .before
+  abbrev pub nextPart : Next → Part
+  nextPart c = c .before .before
 
-  abbrev pub foundPart : Found → Part
-  foundPart c = c .before .before .before
+  abbrev pub nextRow : Next → Row
+  nextRow c = partRow (nextPart c)
+
+  abbrev pub lookedNext : Looked → Next
+  lookedNext c = c .before .before .before .before
+
+  abbrev pub foundNext : Found → Next
+  foundNext c = c .before .before
 
   -- ---- what is known there
 
@@ -178,24 +192,31 @@ module _ (t : ℕ) where
   pub next-small : (c : Part) → c .highest2 .result + 1 < 65
   next-small c = next-place (loopStart (turn (partRow c)) .args .left) (led (partRow c)) (c .before .if2 .left) (c .highest2 .ensures)
 
-  pub inner : (c : Part)
-      → let s = loopStart (turn (partRow c)) in
-      let starts = s .args .starts .now in
-      Searchable (s .args .limit) (given s) starts (getD starts (c .highest2 .result + 1) 0)
-      (s .args .rest - getD (s .args .clusters .now) (turn (partRow c) .loop .i - 1) 0)
-  inner c = inner-asks (loopStart (turn (partRow c)) .args .left) (led (partRow c)) (c .before .if2 .left) (c .highest2 .ensures)
+  -- what is left, and the call in whose loop it is
+  abbrev pub other : Next → ℕ
+  other c =
+      let l = turn (nextRow c) in
+      loopStart l .args .rest - getD (loopStart l .args .clusters .now) (l .loop .i - 1) 0
+
+  abbrev pub outer : Next → Start
+  outer c = loopStart (turn (nextRow c))
+
+  pub inner : (c : Next) → Searchable (outer c .args .limit) (given (outer c)) (outer c .args .starts .now) (c .counted2 .result) (other c)
+  inner c =
+      let p = nextPart c in
+      let s = outer c in
+      subst (λ (n : ℕ). Searchable (s .args .limit) (given s) (s .args .starts .now) n (other c)) (sym (c .counted2 .ensures))
+      (inner-asks (s .args .left) (led (nextRow c)) (p .before .if2 .left) (p .highest2 .ensures))
+
+  -- the sum over the covers of what is left, by so many rows
+  abbrev pub innerSum : Next → ℕ → ℕ → Tally
+  innerSum c k n = tallyOf (outer c .args .limit) (sumCovers k (other c) (partsOf (given (outer c)) n))
 
   pub inner-looked : (c : Looked)
-      → let p = lookedPart c in
-      let s = loopStart (turn (partRow p)) in
-      c .last .result
-      ≡ tallyOf (s .args .limit) (sumCovers (s .args .left - 1)
-      (s .args .rest - getD (s .args .clusters .now) (turn (partRow p) .loop .i - 1) 0)
-      (partsOf (given s) (getD (s .args .starts .now) (p .highest2 .result + 1) 0)))
+      → let n = lookedNext c in c .last .result ≡ innerSum n (outer n .args .left - 1) (n .counted2 .result)
   inner-looked c =
-      let s = loopStart (turn (partRow (lookedPart c))) in
-      let e : s .args .left - 1 ≡ 1 = omega (arith, c .before .before .if3 .taken) in
-      rw e (c .last .ensures)
+      let one : outer (lookedNext c) .args .left - 1 ≡ 1 = omega (arith, c .before .before .before .if3 .taken) in
+      rw one (c .last .ensures)
 
   -- u is what the row adds
   abbrev pub Adding : Loop → Tally → Type 0
@@ -208,22 +229,23 @@ module _ (t : ℕ) where
       let at = c .before .before .before in
       whole-adds (loopStart (turn at) .args .left) (led at) (c .before .part .ensures) (c .if2 .taken)
 
-  module _ (p : Part) {v : Tally}
-      (q : let s = loopStart (turn (partRow p)) in
-      v ≡ tallyOf (s .args .limit) (sumCovers (s .args .left - 1)
-      (s .args .rest - getD (s .args .clusters .now) (turn (partRow p) .loop .i - 1) 0)
-      (partsOf (given s) (getD (s .args .starts .now) (p .highest2 .result + 1) 0)))) where
-    pub under-fits : let one = p .before .before .part .result in
+  module _ (c : Next) {v : Tally} (q : v ≡ innerSum c (outer c .args .left - 1) (c .counted2 .result)) where
+    at-start : v ≡ innerSum c (outer c .args .left - 1) (getD (outer c .args .starts .now) (nextPart c .highest2 .result + 1) 0)
+    at-start = q ∙ ap (innerSum c (outer c .args .left - 1)) (c .counted2 .ensures)
+
+    pub under-fits : let one = nextPart c .before .before .part .result in
         SFits w64 (one .best +ℤ v .best) × ((one .low + v .low < wordValues) × (one .high + v .high < wordValues))
     under-fits =
-        under-asks (loopStart (turn (partRow p)) .args .left) (led (partRow p)) (p .before .if2 .left) (p .highest2 .ensures)
-        (p .before .before .part .ensures) q
+        let p = nextPart c in
+        under-asks (outer c .args .left) (led (nextRow c)) (p .before .if2 .left) (p .highest2 .ensures)
+        (p .before .before .part .ensures) at-start
 
-    pub adds-part : {u : Tally} → u ≡ underTally (loopStart (turn (partRow p)) .args .limit) (p .before .before .part .result) v
-        → Adding (turn (partRow p)) u
+    pub adds-part : {u : Tally} → u ≡ underTally (outer c .args .limit) (nextPart c .before .before .part .result) v
+        → Adding (turn (nextRow c)) u
     adds-part e =
-        part-adds (loopStart (turn (partRow p)) .args .left) (led (partRow p)) (p .before .if2 .left) (p .highest2 .ensures)
-        (p .before .before .part .ensures) q e
+        let p = nextPart c in
+        part-adds (outer c .args .left) (led (nextRow c)) (p .before .if2 .left) (p .highest2 .ensures)
+        (p .before .before .part .ensures) at-start e
 
   pub asks : (c : Turn) {u : Tally} → Adding (c .before) u
       → (u .count ≤ loopStart (c .before) .args .limit) × (c .before .loop .sum .tuples + u .tuples < wordValues)

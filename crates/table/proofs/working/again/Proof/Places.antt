@@ -20,13 +20,13 @@ use Rattle.table.proofs.Rows.AgainRow.{Partly, weight-at}
 use Rattle.table.proofs.working.again.Tie as tie
 
 abbrev pub Inv-loop : tie.InvT-loop
-Inv-loop clusters weights states lengths₀ counts₀ marks₀ bests₀ lows₀ highs₀ n degree cluster starts next₀
+Inv-loop clusters weights states lengths₀ counts₀ marks₀ bests₀ lows₀ highs₀ n degree cluster all starts next₀
     lengths counts marks bests lows highs next =
     let columns = tableIn n degree clusters weights states in
     Partly narrow (columns lengths₀ counts₀ marks₀ bests₀ lows₀ highs₀) cluster (columns lengths counts marks bests lows highs) next
 
 abbrev pub μ-loop : tie.MeasureT-loop
-μ-loop clusters weights states lengths₀ counts₀ marks₀ bests₀ lows₀ highs₀ n degree cluster starts next₀
+μ-loop clusters weights states lengths₀ counts₀ marks₀ bests₀ lows₀ highs₀ n degree cluster all starts next₀
     lengths counts marks bests lows highs next =
     n - next
 
