@@ -26,8 +26,8 @@ pub fn is_marked(low: u64, high: u64, i: usize) -> bool
     false
 }
 
-// Whether each row that a word marks is one of the first `n` and lies inside `cluster`; bit 0 of the word is row `base`. The lowest bit goes
-// first: taking it away needs no count of where it stood.
+// Whether each row that a word marks is one of the first `n` and lies inside `cluster`; bit 0 of the word is row `base`. The lowest bit
+// goes first, and goes with the number before: that needs no count of where it stood.
 pub(crate) fn is_word_fit(clusters: &[u64], n: usize, base: usize, word: u64, cluster: u64) -> bool
     requires { ⌜ n ≤ length (now clusters) ⌝ }
     requires { ⌜ base ≤ 64 ⌝ }
@@ -43,7 +43,7 @@ pub(crate) fn is_word_fit(clusters: &[u64], n: usize, base: usize, word: u64, cl
         if !is_inside(clusters[j], cluster) {
             return false;
         }
-        rest -= 1u64 << bit;
+        rest &= rest - 1;
     }
     true
 }

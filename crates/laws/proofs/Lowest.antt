@@ -1,5 +1,6 @@
 -- The lowest taxon of a cluster.
 --     lowest-in        a cluster that isn't empty has it
+--     lowest-dropped   a cluster without it
 --     lowest-le        no taxon of the cluster is lower
 --     lowest-lt        it is a taxon of the width
 --     lowest-taxon     the lowest taxon of a one-taxon cluster
@@ -8,7 +9,7 @@
 -- Assumes nothing.
 use mathlib.Core.Path.{_≡_, refl, sym, ap₂, _∙_, subst}
 use mathlib.Core.Logic.{_≢_}
-use Prim.Native.Nat.{ℕ, zero, suc, _*_, _+_, _/_, _%_, _^_, _≤_, _<_, min}
+use Prim.Native.Nat.{ℕ, zero, suc, _*_, _+_, _-_, _/_, _%_, _^_, _≤_, _<_, min}
 use native.Mathlib.Omega.{arith}
 use lib.Bits.{bitAnd, and-step}
 use lib.Count.{trailingZeros, under}
@@ -17,9 +18,13 @@ use lib.Pow.{pow-lt}
 use Rattle.laws.specs.Cluster.{inside, apart, lowest}
 use Rattle.laws.proofs.Tests.{eq→eqb}
 use Rattle.laws.proofs.Digits.{Has, pow-has, has-lt}
-use Rattle.laws.proofs.Cluster.{inside-trans, has-of-inside, taxon-nonzero, apart→}
+use Rattle.laws.proofs.Cluster.{inside-refl, inside-trans, has-of-inside, taxon-nonzero, apart→}
 
 -- ---- a taxon, and the halves of the cluster
+
+and-self : (c : ℕ) → bitAnd c c ≡ c
+unfolding inside
+and-self c = eqb→eq (bitAnd c c) c (inside-refl c)
 
 and-one : (c : ℕ) → bitAnd 1 c ≡ c % 2
 and-one c = omega (arith, and-step 1 c)
@@ -58,6 +63,27 @@ lowest-in (suc w) c h n = go (c % 2) refl (λ k. lowest-in w (c / 2) (omega arit
     go : (d : ℕ) → c % 2 ≡ d → (c / 2 ≢ 0 → T (inside (2 ^ lowest w (c / 2)) (c / 2))) → T (inside (2 ^ under d (lowest w (c / 2))) c)
     go zero e ih = inside-double (lowest w (c / 2)) c (ih (λ z. n (omega arith)))
     go (suc d) e ih = inside-odd c (omega arith)
+
+-- a number and the one before it share all taxa but the lowest
+pub lowest-dropped : (w c : ℕ) → c < 2 ^ w → c ≢ 0 → bitAnd c (c - 1) ≡ c - 2 ^ lowest w c
+unfolding trailingZeros
+lowest-dropped zero c h n = absurd (n (omega arith))
+lowest-dropped (suc w) c h n = and-step c (c - 1) ∙ go (c % 2) refl (λ k. lowest-dropped w (c / 2) (omega arith) k)
+  where
+    go : (d : ℕ) → c % 2 ≡ d → (c / 2 ≢ 0 → bitAnd (c / 2) (c / 2 - 1) ≡ c / 2 - 2 ^ lowest w (c / 2))
+        → bitAnd (c / 2) ((c - 1) / 2) * 2 + min (c % 2) ((c - 1) % 2) ≡ c - 2 ^ under d (lowest w (c / 2))
+    go zero e ih =
+        let half : (c - 1) / 2 ≡ c / 2 - 1 = omega arith in
+        let even : min (c % 2) ((c - 1) % 2) ≡ 0 = omega arith in
+        let t = lowest w (c / 2) in
+        let twice : 2 ^ suc t ≡ 2 ^ t * 2 = omega arith in
+        let double : 2 ^ under 0 t ≡ 2 ^ t * 2 = twice in
+        ap₂ (λ (x y : ℕ). bitAnd (c / 2) x * 2 + y) half even ∙ omega (arith, double, ih (λ z. n (omega arith)))
+    go (suc d) e ih =
+        let half : (c - 1) / 2 ≡ c / 2 = omega arith in
+        let even : min (c % 2) ((c - 1) % 2) ≡ 0 = omega arith in
+        let one : 2 ^ under (suc d) (lowest w (c / 2)) ≡ 1 = refl in
+        ap₂ (λ (x y : ℕ). bitAnd (c / 2) x * 2 + y) half even ∙ omega (arith, one, and-self (c / 2))
 
 pub lowest-le : (w c t : ℕ) → t < w → T (inside (2 ^ t) c) → lowest w c ≤ t
 unfolding trailingZeros

@@ -4,16 +4,17 @@ use borrow.Author.Needs.{needs}
 use borrow.Author.Tests.{lt-ltb, le-ltb}
 use mathlib.Core.Path.{_≡_, refl, sym, _∙_}
 use mathlib.Core.Bool.{true, false}
-use Prim.Native.Nat.{_^_, _≤_, _<_}
+use Prim.Native.Nat.{_-_, _^_, _≤_, _<_}
 use native.Mathlib.Omega.{arith}
 use denote.Ref.{now}
+use lib.Bits.{bitAnd}
 use lib.Pow.{pow-pos}
 use Rattle.laws.specs.Cluster.{lowest}
 use Rattle.laws.proofs.Cluster.{le-of-inside}
-use Rattle.laws.proofs.Lowest.{lowest-in}
+use Rattle.laws.proofs.Lowest.{lowest-in, lowest-dropped}
 use Rattle.laws.proofs.Tests.{passed, failed}
 use Rattle.kept.specs.Fields.{everyBit, isMarkFit}
-use Rattle.kept.proofs.Laws.Marks.{Marked, marked→, →marked, mark-lt, shifted}
+use Rattle.kept.proofs.Laws.Marks.{Marked, marked→, →marked, mark-lt}
 use Rattle.kept.proofs.Laws.Words.{everyBit-none, everyBit-fails, everyBit-drop}
 use Rattle.kept.proofs.marks.is_word_fit.Statement.{statement}
 use Rattle.kept.proofs.marks.is_word_fit.Tie as tie
@@ -48,6 +49,11 @@ bit-lt c = mark-lt 64 (c .before .before .loop .rest) (c .lowest .result) (omega
 bit-le : (c : tie.After-lowest Inv-loop μ-loop) → 2 ^ c .lowest .result ≤ c .before .before .loop .rest
 bit-le c = le-of-inside _ _ (marked→ _ _ (bit-set c))
 
+-- without it
+dropped : (c : tie.After-lowest Inv-loop μ-loop)
+    → let rest = c .before .before .loop .rest in bitAnd rest (rest - 1) ≡ rest - 2 ^ c .lowest .result
+dropped c = rw (c .lowest .ensures) (lowest-dropped 64 (c .before .before .loop .rest) (rest-word c) (λ e. omega arith))
+
 returns : tie.Need-returns Inv-loop μ-loop
 returns c =
     let bit = c .before in
@@ -67,14 +73,6 @@ returns-2 c =
     let fails : p (bit .lowest .result) ≡ false = rw (lt-ltb _ _ (c .before .before .before .if1 .left), outside) in
     sym (at-loop .loop .inv .1 ∙ everyBit-fails 64 p (at-loop .loop .rest) (bit .lowest .result) (bit-lt bit) (bit-set bit) fails)
 
-sub-rest : tie.Need-sub-rest Inv-loop μ-loop
-sub-rest c = let bit = at-bit (c .before) in rw (shifted _ (bit-lt bit)) (bit-le bit)
-
-loop-less : tie.Need-loop-less Inv-loop μ-loop
-loop-less c =
-    let bit = at-bit (c .before) in
-    rw (shifted _ (bit-lt bit)) (omega (arith, bit-le bit, pow-pos (bit .lowest .result)))
-
 loop-again : tie.Need-loop-again Inv-loop μ-loop
 loop-again c =
     let bit = at-bit (c .before) in
@@ -83,7 +81,7 @@ loop-again c =
     let p = isMarkFit (now (a .clusters)) (a .n) (a .cluster) (a .base) in
     let within = passed (c .before .is-inside .ensures) (c .if2 .left) in
     let passes : p (bit .lowest .result) ≡ true = rw (lt-ltb _ _ (c .before .before .before .if1 .left), within) in
-    rw (shifted _ (bit-lt bit))
+    rw (dropped bit)
     (omega arith, at-loop .loop .inv .1 ∙ everyBit-drop 64 p (at-loop .loop .rest) (bit .lowest .result) (bit-set bit) passes)
 
 returns-3 : tie.Need-returns-3 Inv-loop μ-loop
@@ -108,9 +106,8 @@ is-word-fit-spec =
     (λ c. omega arith)
     (λ c κs. search needs)
     returns-2
-    (λ c. record { fits = omega (arith, bit-lt (at-bit (c .before))) })
-    (λ c. bit-lt (at-bit (c .before)))
-    sub-rest
-    loop-less
+    (λ c. omega arith)
+    (λ c. let bit = at-bit (c .before) in
+    rw (dropped bit) (omega (arith, bit-le bit, pow-pos (bit .lowest .result))))
     loop-again
     returns-3)

@@ -1,8 +1,7 @@
 -- The places in the code of `search` (`src/searching.rt`), each named from the loop's head or from the row that is added back to the call,
 -- and what is known there.
 --     μ-search, search-at, search-below     the measure of the calls, the children left, and what a call with that many asks
---     claims                   what the functions that are called ask and tell
---     Inv, μ                   the loop's invariant and its measure, the rows left
+--     claims, Inv, μ           what the functions that are called ask and tell, the loop's invariant, and its measure, the rows left
 --     reached, loopStart, tested, turn, partRow, nextPart, nextRow, lookedNext, foundNext     from one place back to another
 --     given, asked, room       the columns, what the search may count on, and that the row looked at is one of the 128
 --     place, start-is          before the loop: the highest taxon, and where its rows start
