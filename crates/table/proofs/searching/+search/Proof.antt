@@ -12,8 +12,8 @@ use Rattle.table.proofs.Tuples.Searchable.{start-past}
 use Rattle.table.proofs.Tuples.Running.{running-all, running-ended, running-skipped, running-added}
 use Rattle.table.proofs.searching.+search.Proof.Places.{μ-search, search-at, claims, Inv, μ, reached, tested}
 use Rattle.table.proofs.searching.+search.Proof.Places.{nextPart, nextRow, lookedNext, foundNext, asked, place, start-is, room}
-use Rattle.table.proofs.searching.+search.Proof.Places.{led, next-small, outer, inner, inner-looked}
-use Rattle.table.proofs.searching.+search.Proof.Places.{adds-whole, under-fits, adds-part, asks}
+use Rattle.table.proofs.searching.+search.Proof.Places.{led, next-small, outer, inner, inner-looked, adds-whole, under-fits}
+use Rattle.table.proofs.searching.+search.Proof.Places.{adds-part, asks}
 use Rattle.table.proofs.searching.search.Reads as search′
 use Rattle.table.proofs.searching.+search.Lts-search as search-lts
 use Rattle.table.proofs.searching.+search.Tie.{close}
