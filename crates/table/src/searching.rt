@@ -49,7 +49,7 @@ pub(crate) fn place_below(clusters: &[u64; 128], past: usize, n: usize, value: u
 }
 
 // For each taxon, how many of the first `n` rows lie below it, among them those below the taxon before; the last start stays `n`.
-pub(crate) fn put_starts(starts: &mut [u8; 65], clusters: &[u64; 128], n: usize)
+pub(crate) fn put_starts(starts: &mut [u16; 65], clusters: &[u64; 128], n: usize)
     requires { ⌜ now starts ≡ replicate 65 n ⌝ }
     requires { ⌜ n ≤ rowCap ⌝ }
     requires { ⌜ Rising (now clusters) n ⌝ }
@@ -60,13 +60,13 @@ pub(crate) fn put_starts(starts: &mut [u8; 65], clusters: &[u64; 128], n: usize)
     let mut taxon: usize = 0;
     while taxon < 64 {
         past = place_below(clusters, past, n, 1u64 << taxon);
-        starts[taxon] = past as u8;
+        starts[taxon] = past as u16;
         taxon += 1;
     }
 }
 
-// A start as rows are counted; a byte holds it, because 65 of them are filled for each table.
-fn counted(start: u8) -> usize
+// A start as rows are counted; it is short, because 65 of them are filled for each table.
+fn counted(start: u16) -> usize
     ensures { λ r. ⌜ r ≡ start ⌝ }
 {
     start as usize
@@ -160,7 +160,7 @@ pub(crate) fn search<'a>(
     bests: &'a [i64; 128],
     lows: &'a [u64; 128],
     highs: &'a [u64; 128],
-    starts: &'a [u8; 65],
+    starts: &'a [u16; 65],
     end: usize,
     rest: u64,
     left: u32,

@@ -69,7 +69,7 @@ fn worked<'a>(
     bests: &'a [i64; 128],
     lows: &'a [u64; 128],
     highs: &'a [u64; 128],
-    starts: &'a [u8; 65],
+    starts: &'a [u16; 65],
     weight: i32,
     i: usize,
     degree: u32,
@@ -128,7 +128,7 @@ pub(crate) fn again<'a>(
         (now (lengths .entry)) (now (counts .entry)) (now (marks .entry)) (now (bests .entry)) (now (lows .entry)) (now (highs .entry)))
         cluster ⌝ }
 {
-    let all = n as u8;
+    let all = n as u16;
     let mut starts = [all; 65];
     put_starts(&mut starts, clusters, n);
     let mut next = 0;

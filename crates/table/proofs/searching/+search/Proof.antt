@@ -82,6 +82,7 @@ pub +search-spec : {M : Type 1} → statement M
 +search-spec = close μ-search λ t. search-lts.spec (claims t) (search-at t) search′.Post Inv μ
     (λ c κs. search needs)
     (λ c. record { fits = omega (arith, place t c) })
+    (λ c. record { fits = omega (arith, place t c) })
     (λ c. omega (arith, place t c))
     (λ c κs. search needs)
     (λ c κs. search needs)
@@ -98,8 +99,10 @@ pub +search-spec : {M : Type 1} → statement M
     (λ c κs. search needs)
     (λ c. record { fits = omega (arith, next-small t c) })
     (λ c. record { fits = omega (arith, next-small t c) })
+    (λ c. record { fits = omega (arith, next-small t c) })
     (next-small t)
     (λ c κs. search needs)
+    (λ c. record { fits = omega (arith, next-small t (nextPart t (c .before))) })
     (λ c. omega (arith, next-small t (nextPart t (c .before))))
     (λ c κs. search needs)
     (last-requires t)
