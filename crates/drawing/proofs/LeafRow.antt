@@ -65,7 +65,7 @@ module _ (W : Width) (facts : WidthFacts W) (d : ℕ) (rs : List Row) (k : Build
   rows-count = length-map rs entry
 
   capped : t .rows ≤ rowCap
-  capped = omega (arith, rows-count, k .capped, facts .rows)
+  capped = omega (arith, rows-count, k .bounds .capped, facts .rows)
 
   pub shown-is : shownRows t ≡ t .rows
   shown-is = min-eq-left capped

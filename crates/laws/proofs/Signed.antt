@@ -4,7 +4,9 @@
 --     whole-fits, whole-bits       a number that isn't negative fits, and is its own bits
 --     flip-fits, flip-whole, flip-below, flip-bits     a negative number: the flipped one fits, is not negative, is below the middle, and
 --                                  gives the bits
+--     flip-neg                     a negative number, flipped
 --     bits-zero                    the bits are zero where the number is
+--     same-bits                    numbers with the same bits are the same
 -- Assumes nothing.
 use mathlib.Core.Path.{_≡_, refl, sym, ap, _∙_}
 use mathlib.Core.Bool.{true, false}
@@ -32,7 +34,7 @@ flip-pos : (n : ℕ) → negsuc 0 -ℤ pos n ≡ negsuc n
 flip-pos zero = refl
 flip-pos (suc n) = rw zero-add
 
-flip-neg : (n : ℕ) → negsuc 0 -ℤ negsuc n ≡ pos n
+pub flip-neg : (n : ℕ) → negsuc 0 -ℤ negsuc n ≡ pos n
 flip-neg n = simp (le-ltb (suc n) 1 (omega arith)) (ap pos (omega arith))
 
 module _ (w : Width) where
@@ -101,3 +103,6 @@ module _ (w : Width) where
   bits-zero (pos n) f = refl
   bits-zero (negsuc n) f =
       ne-eqb (2 ^ bits w - suc n) 0 (λ (e : 2 ^ bits w - suc n ≡ 0). omega (arith, f .sfits, halves w)) ∙ sym (eqb·suc-zero n)
+
+  pub same-bits : {a b : ℤ} → SFits w a → SFits w b → ofZ w a ≡ ofZ w b → a ≡ b
+  same-bits f g e = sym (toZ-ofZ f) ∙ ap (toZ w) e ∙ toZ-ofZ g

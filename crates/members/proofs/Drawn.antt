@@ -45,7 +45,7 @@ module _ (W : Width) (facts : WidthFacts W) (t : Table) where
       let s = T-and (areScored t) (weighsBest t) (r .0) in record {
         fit = fit;
         row = tree .0;
-        top = placeOf-at t (le-trans (isFit→ W facts t fit .capped) (facts .rows)) (leafSet t) (tree .0);
+        top = placeOf-at t (le-trans (isFit→ W facts t fit .bounds .capped) (facts .rows)) (leafSet t) (tree .0);
         counted = tree .1;
         tree = T-true _ (r .1);
         weighs = isSame→ _ _ (s .1);

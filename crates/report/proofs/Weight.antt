@@ -5,17 +5,18 @@
 --     flip-units           one more is the weight's number of units
 --     units-fits           which is a number of 64 bits
 -- Assumes nothing.
-use mathlib.Core.Path.{_≡_, ap, _∙_}
+use mathlib.Core.Path.{_≡_, _∙_}
 use mathlib.Core.Bool.{true, false}
-use Prim.Native.Nat.{ℕ, suc, _+_}
+use Prim.Native.Nat.{ℕ, _+_}
 use native.Mathlib.Omega.{arith}
-use borrow.Author.Tests.{ltb-true, le-ltb}
+use borrow.Author.Tests.{ltb-true}
 use lib.Dec.{T}
 use lib.IntN.{ℤ, pos, negsuc, natAbs, _-ℤ_}
 use lib.Signed.{mag, ltZ, nonNeg}
 use mir.Facts.{toZ-ofZ}
 use mir.Syntax.{w64}
 use mir.Val.{Fits, SFits, toZ, ofZ}
+use Rattle.laws.proofs.Signed.{flip-neg}
 
 pub units-fit : (z : ℤ) → SFits w64 z → ltZ z (pos 0) ≡ false → T (nonNeg z) × Fits w64 (natAbs z)
 units-fit (pos n) f t = (tt, record { fits = omega (arith, f .sfits) })
@@ -23,7 +24,7 @@ units-fit (negsuc n) f t = let z : _≡_ {A = ℕ} 0 1 = cc in absurd (omega ari
 
 flipped : (z : ℤ) → ltZ z (pos 0) ≡ true → (negsuc 0 -ℤ z ≡ pos (mag z)) × (mag z + 1 ≡ natAbs z)
 flipped (pos n) t = absurd (omega (arith, ltb-true n 0 t))
-flipped (negsuc n) t = (simp (le-ltb (suc n) 1 (omega arith)) (ap pos (omega arith)), omega arith)
+flipped (negsuc n) t = (flip-neg n, omega arith)
 
 module _ (z : ℤ) (f : SFits w64 z) (t : ltZ z (pos 0) ≡ true) where
   pub flip-fits : SFits w64 (negsuc 0 -ℤ z)

@@ -19,7 +19,7 @@ use Rattle.kept.specs.declared.table.Table.{Table}
 use Rattle.kept.specs.View.{rowAt, entryAt, entriesOf, clustersIn, clustersDown, tableOf}
 use Rattle.kept.specs.Blank.{isEmpty}
 use Rattle.kept.specs.Fit.{fitEntry}
-use Rattle.kept.specs.Arrays.{Rising, Sized}
+use Rattle.kept.specs.Arrays.{Rising, Sized, Bounded}
 use Rattle.table.specs.declared.tally.Tally.{Tally}
 use Rattle.table.specs.Tally.{tallyOf, ownTally}
 use Rattle.table.specs.Searched.{Starts, WordsIn, Sound}
@@ -57,10 +57,8 @@ pub record Ready (W : Width) (k : Columns) (starts : List ℕ) (z : ℤ) (i d : 
 -- ---- what working out a table may count on
 -- the rows that don't contain c are fit; the others are to be worked out
 pub record Workable (W : Width) (t : Table) (c : ℕ) : Type 0 where
-  pub filled : 1 ≤ t .rows
-  pub capped : t .rows ≤ W .rows
+  pub bounds : Bounded W (t .degree) (t .rows)
   pub sized : Sized t
-  pub degree : T (isDegree (t .degree))
   pub rising : Rising (t .clusters) (t .rows)
   pub rules : (i : ℕ) → i < t .rows → T (keepsRules W (rowAt t i))
   pub fit : (i : ℕ) → i < t .rows → (T (inside c (rowAt t i .cluster)) → ⊥) → T (fitEntry W (clustersIn t) (entryAt t i))

@@ -42,7 +42,7 @@ module _ (W : Width) (facts : WidthFacts W) {t : Table} (d : Drawable W t) where
   tree-on = tested-tree (W .taxa) (t .degree) (leafSet t) (membersOf t) (d .once) (d .sound) (facts .taxa) (true-T (d .tree))
 
   pub leaf-row-lt : leafRow t < rowCap
-  leaf-row-lt = omega (arith, d .row, isFit→ W facts t (d .fit) .capped, facts .rows)
+  leaf-row-lt = omega (arith, d .row, isFit→ W facts t (d .fit) .bounds .capped, facts .rows)
 
 -- ---- into a room
 

@@ -28,6 +28,7 @@ use Rattle.cluster.proofs.Laws.Rule.{rules→, →rules}
 use Rattle.trees.specs.Rows.{Entry}
 use Rattle.trees.specs.Result.{Result}
 use Rattle.kept.specs.declared.table.Table.{Table}
+use Rattle.kept.specs.Arrays.{Bounded}
 use Rattle.kept.specs.View.{entryAt, entriesOf, clustersIn, clustersDown}
 use Rattle.kept.specs.Blank.{isEmpty}
 use Rattle.kept.specs.Results.{isRanged, isMatched}
@@ -94,9 +95,7 @@ module _ (W : Width) (cs : List ℕ) (t : Table) (n : ℕ) where
 
 -- ---- a table
 pub record FitTable (W : Width) (t : Table) : Type 0 where
-  pub degree : T (isDegree (t .degree))
-  pub some : 1 ≤ t .rows
-  pub capped : t .rows ≤ W .rows
+  pub bounds : Bounded W (t .degree) (t .rows)
   pub rising : Ascends (t .clusters) (t .rows)
   pub fit : (i : ℕ) → i < t .rows → T (fitEntry W (clustersIn t) (entryAt t i))
   pub blank : (i : ℕ) → t .rows ≤ i → i < rowCap → T (isEmpty (entryAt t i))
@@ -111,9 +110,7 @@ module _ (W : Width) (facts : WidthFacts W) (t : Table) where
       let e = T-and (isRising (t .clusters) (t .rows)) _ (c .1) in
       let most = leb→le (t .rows) (W .rows) (c .0) in
       let right = right→ W (clustersIn t) t (t .rows) rowCap (e .1) in record {
-        degree = a .0;
-        some = leb→le _ _ (b .0);
-        capped = most;
+        bounds = record { degree = a .0; filled = leb→le _ _ (b .0); capped = most };
         rising = isRising→ (t .clusters) (t .rows) (e .0);
         fit = λ i l. rw (lt-leb (t .rows) i l) at (right i (omega (arith, facts .rows, most)));
         blank = λ i l m. rw (le-leb (t .rows) i l) at (right i m);
@@ -126,9 +123,9 @@ module _ (W : Width) (t : Table) where
   pub →isFit : FitTable W t → T (isFit W t)
   unfolding isFit
   →isFit f =
-      and-T (isDegree (t .degree)) _ (f .degree)
-      (and-T (leb 1 (t .rows)) _ (le→leb _ _ (f .some))
-      (and-T (leb (t .rows) (W .rows)) _ (le→leb _ _ (f .capped))
+      and-T (isDegree (t .degree)) _ (f .bounds .degree)
+      (and-T (leb 1 (t .rows)) _ (le→leb _ _ (f .bounds .filled))
+      (and-T (leb (t .rows) (W .rows)) _ (le→leb _ _ (f .bounds .capped))
       (and-T (isRising (t .clusters) (t .rows)) _ (→isRising (t .clusters) (t .rows) (f .rising))
       (→right W (clustersIn t) t (t .rows) rowCap (λ i l. go i l (decLe (t .rows) i))))))
     where

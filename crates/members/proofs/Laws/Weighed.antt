@@ -1,10 +1,9 @@
 -- Weights of 32 bits added up in 64: no sum of 128 of them is too large.
 --     near-fits       a sum of so many weights fits 64 bits
---     same-bits       numbers with the same bits are the same
 --     cast-fits, cast-back     a weight of 32 bits fits 64, and is the same there
 --     weight-skips, weight-takes     the weights of the marked rows: one row more, marked or not
 -- Assumes nothing.
-use mathlib.Core.Path.{_≡_, sym, ap, _∙_}
+use mathlib.Core.Path.{_≡_, ap, _∙_}
 use mathlib.Core.Bool.{true, false}
 use mathlib.Core.List.{List, map}
 use Prim.Native.Nat.{ℕ, _+_, _*_, _≤_, _<_}
@@ -24,9 +23,6 @@ use Rattle.members.proofs.Laws.Marked.{marked-takes, marked-skips}
 
 pub near-fits : (z : ℤ) (i : ℕ) → i ≤ rowCap → natAbs z ≤ weightSpan * i → SFits w64 z
 near-fits z i h k = record { sfits = omega (arith, mag-le-abs z) }
-
-pub same-bits : {a b : ℤ} → SFits w64 a → SFits w64 b → ofZ w64 a ≡ ofZ w64 b → a ≡ b
-same-bits f g e = sym (toZ-ofZ f) ∙ ap (toZ w64) e ∙ toZ-ofZ g
 
 module _ (z : ℤ) (h : mag z < weightSpan) where
   small : SFits w32 z

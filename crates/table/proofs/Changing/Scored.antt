@@ -114,7 +114,7 @@ module _ (W : Width) (facts : WidthFacts W) (t : Table) (c : ℕ) (z : ℤ) (s :
       go : Dec (j ≡ i) → entryAt new j ≡ put (lib.Dec.eqb (getD (t .clusters) j 0) c)
       go (yes e) =
           subst (λ (n : ℕ). entryAt new n ≡ scored n) (sym e)
-          (score-same t i z s sized (omega (arith, known .capped, facts .rows)))
+          (score-same t i z s sized (omega (arith, known .bounds .capped, facts .rows)))
           ∙ ap put (sym (eq-eqb (getD (t .clusters) j 0) c (ap (λ (n : ℕ). getD (t .clusters) n 0) e ∙ found)))
       go (no n) = score-other t i z s j n ∙ ap put (sym (ne-eqb (getD (t .clusters) j 0) c (only j h n)))
 
@@ -159,11 +159,9 @@ module _ (W : Width) (facts : WidthFacts W) (t : Table) (c : ℕ) (z : ℤ) (s :
 
   new-workable : T (isScore z s) → WordsIn (t .«members_low») (t .rows) → Workable W new c
   new-workable k words = record {
-    filled = known .some;
-    capped = known .capped;
+    bounds = known .bounds;
     sized = score-sized;
-    degree = known .degree;
-    rising = record { long = omega (arith, sized .clusters, known .capped, facts .rows); up = known .rising };
+    rising = record { long = omega (arith, sized .clusters, known .bounds .capped, facts .rows); up = known .rising };
     rules = score-rules k;
     fit = score-fit;
     words = words;

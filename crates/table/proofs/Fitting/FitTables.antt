@@ -11,13 +11,13 @@ use mathlib.Core.Logic.{_≢_}
 use mathlib.Core.Bool.{Bool, true, false, cond}
 use mathlib.Core.List.{List, map, Memᴰ·map, Memᴰ·of-map}
 use mathlib.Core.List.{List·Memᴰ as Mem}
-use Prim.Native.Nat.{ℕ, _-_, _≤_}
+use Prim.Native.Nat.{ℕ, _-_}
 use native.Mathlib.Omega.{arith}
 use lib.Dec.{T, eqb}
 use lib.IntN.{ℤ}
 use lib.ListN.{length, length-map}
 use Rattle.laws.specs.Cluster.{inside}
-use Rattle.laws.specs.Limits.{Width, isDegree}
+use Rattle.laws.specs.Limits.{Width}
 use Rattle.laws.specs.Orders.{Falling}
 use Rattle.laws.specs.Row.{Row}
 use Rattle.laws.specs.Widths.{WidthFacts}
@@ -32,6 +32,7 @@ use Rattle.trees.specs.Built.{builtTable}
 use Rattle.trees.specs.Rescored.{putScore, workedOut, again, rescored}
 use Rattle.trees.proofs.Rescore.{put-cluster, put-other, again-clusters}
 use Rattle.kept.specs.declared.table.Table.{Table}
+use Rattle.kept.specs.Arrays.{Bounded}
 use Rattle.kept.specs.View.{entryAt, entriesOf, tableOf}
 use Rattle.kept.specs.Fit.{fitEntry, isFit}
 use Rattle.table.specs.Rescore.{newTable}
@@ -45,9 +46,7 @@ use Rattle.table.proofs.Laws.Build.{Buildable, unworkedRow, unworked-cl
 -- ---- rows that may be made a table of
 
 pub record InTable (W : Width) (d : ℕ) (es : List (Entry Result)) (P : Entry Result → Type 0) : Type 0 where
-  pub degree : T (isDegree d)
-  pub filled : 1 ≤ length es
-  pub capped : length es ≤ W .rows
+  pub bounds : Bounded W d (length es)
   pub falls : Falling (map cl es)
   pub each : (e : Entry Result) → Mem e es → P e
 
@@ -61,9 +60,7 @@ Rows W d es = InTable W d es (λ (e : Entry Result). T (keepsRules W (e .row)))
 carried : (W : Width) (d : ℕ) (es xs : List (Entry Result)) (P Q : Entry Result → Type 0) → map cl xs ≡ map cl es → InTable W d es P
     → ((x : Entry Result) → Mem x xs → Q x) → InTable W d xs Q
 carried W d es xs P Q same k f = record {
-  degree = k .degree;
-  filled = omega (arith, count, k .filled);
-  capped = omega (arith, count, k .capped);
+  bounds = subst (Bounded W d) (sym count) (k .bounds);
   falls = rw same (k .falls);
   each = f;
 }
@@ -75,9 +72,7 @@ carried W d es xs P Q same k f = record {
 
 pub table-fit : (W : Width) (d : ℕ) (es : List (Entry Result)) → FitRows W d es → T (isFit W (tableOf d es))
 table-fit W d es f = →isFit W t (record {
-  degree = f .degree;
-  some = f .filled;
-  capped = f .capped;
+  bounds = f .bounds;
   rising = entries-rising t (rw (entries-table d es) (f .falls));
   fit = λ i l. rw (entries-table d es)
       (f .each (entryAt t i) (subst (Mem (entryAt t i)) (entries-table d es) (down-mem (entryAt t) (length es) i l)));
@@ -107,7 +102,7 @@ module _ (W : Width) (facts : WidthFacts W) (d c : ℕ) (es : List (Entry Result
       each : (e : Entry Result) → Mem e (again F c es) → T (fitEntry W (map cl es) e)
       each =
           again-fit W (facts .counts) d c (map cl es) (k .falls) (nonzero-rows W d es k) es listed
-          (facts .tuples d (length es - 1) (degree-range (k .degree) .1) (omega (arith, k .filled, k .capped))) f
+          (facts .tuples d (length es - 1) (degree-range (k .bounds .degree) .1) (omega (arith, k .bounds .filled, k .bounds .capped))) f
 
   pub again-table-fit : ((e : Entry Result) → Mem e es → (T (inside c (cl e)) → ⊥) → T (fitEntry W (map cl es) e))
       → T (isFit W (tableOf d (again F c es)))
@@ -161,9 +156,7 @@ fit-rows W facts t h =
     let f = isFit→ W facts t h in
     let n = down-length (entryAt t) (t .rows) in
     record {
-      degree = f .degree;
-      filled = omega (arith, n, f .some);
-      capped = omega (arith, n, f .capped);
+      bounds = subst (Bounded W (t .degree)) (sym n) (f .bounds);
       falls = fit-falls W t f;
       each = fit-each W t f;
     }
@@ -178,9 +171,7 @@ rescored-fit W facts t c z s h score =
 module _ (W : Width) (facts : WidthFacts W) (d : ℕ) (rs : List Row) (k : Buildable W d rs) where
   accepted-rows : Rows W d (map unworkedRow rs)
   accepted-rows = record {
-    degree = k .degree;
-    filled = omega (arith, length-map rs unworkedRow, k .filled);
-    capped = omega (arith, length-map rs unworkedRow, k .capped);
+    bounds = subst (Bounded W d) (sym (length-map rs unworkedRow)) (k .bounds);
     falls = rw (unworked-clusters rs) (k .facts .falls);
     each = λ e m. let q = Memᴰ·of-map unworkedRow rs m in
         subst (λ (x : Entry Result). T (keepsRules W (x .row))) (q .2) (k .rules (q .0) (q .1));

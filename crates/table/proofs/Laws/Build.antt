@@ -15,7 +15,7 @@ use mathlib.Core.List.{List, [], _∷_, _++_, map, reverse, Memᴰ·of-map}
 use mathlib.Core.List.{List·Memᴰ as Mem}
 use Prim.Native.Nat.{ℕ, _-_, _/_, _%_, _≤_, _<_}
 use native.Mathlib.Omega.{arith}
-use lib.Dec.{T, leb, leb→le, le→leb}
+use lib.Dec.{T}
 use lib.IntN.{pos}
 use lib.ListN.{length, length-map, replicate}
 use Rattle.laws.specs.Cluster.{inside}
@@ -27,7 +27,7 @@ use Rattle.laws.proofs.Appended.{map-through}
 use Rattle.laws.proofs.Cluster.{zero-inside}
 use Rattle.laws.proofs.Column.{column-keep}
 use Rattle.laws.proofs.Down.{down-mem}
-use Rattle.laws.proofs.Tests.{T-and, and-T, T-true}
+use Rattle.laws.proofs.Tests.{T-true}
 use Rattle.answers.specs.declared.refusal.Answer.{Answer}
 use Rattle.answers.specs.declared.refusal.Answer.the-variants.{Done, Refused}
 use Rattle.answers.specs.declared.refusal.Refusal.{Refusal}
@@ -50,7 +50,7 @@ use Rattle.trees.specs.Kind.{workedFrom}
 use Rattle.trees.proofs.Built.{worked-is-built}
 use Rattle.kept.specs.declared.table.Table.{Table}
 use Rattle.kept.specs.View.{rowAt, entryAt, clustersIn, tableOf, zeroTable}
-use Rattle.kept.specs.Arrays.{Rising}
+use Rattle.kept.specs.Arrays.{Rising, Bounded}
 use Rattle.kept.proofs.Laws.Blank.{blank→empty}
 use Rattle.kept.proofs.Laws.Fit.{entries-rising}
 use Rattle.kept.proofs.Laws.View.{entries-table, table-sized, table-past}
@@ -68,17 +68,13 @@ build-of W l d e = ap (λ (f : Option Refusal). ended f zeroTable 0 (tableOf d (
 -- ---- the rows of an accepted list
 
 pub record Buildable (W : Width) (d : ℕ) (rs : List Row) : Type 0 where
-  pub degree : T (isDegree d)
-  pub filled : 1 ≤ length rs
-  pub capped : length rs ≤ W .rows
+  pub bounds : Bounded W d (length rs)
   pub facts : RowFacts (W .taxa) rs
   pub rules : (r : Row) → Mem r rs → T (keepsRules W r)
 
 pub buildable : {W : Width} → WidthFacts W → {l : List ℕ} {d : ℕ} → T (isDegree d) → Bytes l → Accepted W l → Buildable W d (rowsOf W l)
 buildable {W} facts {l} degree byte a = record {
-  degree = degree;
-  filled = accepted-some W l a;
-  capped = accepted-few W l a facts;
+  bounds = record { degree = degree; filled = accepted-some W l a; capped = accepted-few W l a facts };
   facts = accepted-facts W l a facts byte;
   rules = accepted-rules W l a facts byte;
 }
@@ -166,7 +162,7 @@ module _ {W : Width} (facts : WidthFacts W) {d : ℕ} {rs : List Row} (k : Build
       ∙ again-built facts d rs (k .facts))
 
   room : length es ≤ rowCap
-  room = omega (arith, count, k .capped, facts .rows)
+  room = omega (arith, count, k .bounds .capped, facts .rows)
 
   rising : Rising (table .clusters) (length es)
   rising = record {
@@ -180,10 +176,8 @@ module _ {W : Width} (facts : WidthFacts W) {d : ℕ} {rs : List Row} (k : Build
 
   pub workable : Workable W (tableOf d (map unworkedRow rs)) 0
   workable = record {
-    filled = omega (arith, count, k .filled);
-    capped = omega (arith, count, k .capped);
+    bounds = subst (Bounded W d) (sym count) (k .bounds);
     sized = table-sized d es room;
-    degree = k .degree;
     rising = rising;
     rules = λ i h. let q = at-row i h in subst (λ (e : Entry Result). T (keepsRules W (e .row))) (q .2) (k .rules (q .0) (q .1));
     fit = λ i h out. absurd (out (zero-inside (rowAt table i .cluster)));
@@ -220,7 +214,7 @@ module _ (W : Width) (l : List ℕ) (d : ℕ) where
         rows = buildable facts degree byte (accepted-iff W l .0 (none-iff (listReasons W l) .0 (told .0)))
 
         table-is : unworkedOf s d ≡ tableOf d (map unworkedRow (rowsOf W l))
-        table-is = ap (λ (x : Listed). unworkedOf x d) (told .1) ∙ unworked-is d (rowsOf W l) (omega (arith, rows .capped, facts .rows))
+        table-is = ap (λ (x : Listed). unworkedOf x d) (told .1) ∙ unworked-is d (rowsOf W l) (omega (arith, rows .bounds .capped, facts .rows))
 
         pub build-workable : Workable W (unworkedOf s d) 0
         build-workable = subst (λ (t : Table). Workable W t 0) (sym table-is) (workable facts rows)

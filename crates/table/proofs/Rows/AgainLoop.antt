@@ -105,7 +105,7 @@ module _ {W : Width} (facts : WidthFacts W) {given : Table} {c : ℕ} (w : Worka
 
   module _ {t : Table} {i : ℕ} (p : Partly W given c t i) where
     room : given .rows ≤ rowCap
-    room = omega (arith, w .capped, facts .rows)
+    room = omega (arith, w .bounds .capped, facts .rows)
 
     -- ---- row i worked out and stored
 

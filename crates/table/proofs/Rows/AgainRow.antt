@@ -73,7 +73,7 @@ module _ {W : Width} (facts : WidthFacts W) {given : Table} {c : ℕ} (w : Worka
     among-same P h = subst P (sym same-clusters) h
 
     room : given .rows ≤ rowCap
-    room = omega (arith, w .capped, facts .rows)
+    room = omega (arith, w .bounds .capped, facts .rows)
 
     ready-sound : i < given .rows → Sound (W .countMax) (columnsOf t) (clustersDown (t .clusters) (given .rows)) i
     ready-sound h = record {
@@ -112,7 +112,7 @@ module _ {W : Width} (facts : WidthFacts W) {given : Table} {c : ℕ} (w : Worka
       begins = clusters-same (λ (l : List ℕ). Starts l (given .rows) starts) s;
       nonzero = clusters-same (λ (l : List ℕ). 0 < getD l i 0) (cluster-pos W (rowAt given i) (w .rules i h));
       small = clusters-same (λ (l : List ℕ). getD l i 0 < wordValues) (cluster-word facts w i h);
-      degree = w .degree;
+      degree = w .bounds .degree;
       light = subst (λ (l : List ℤ). natAbs (getD l i (pos 0)) ≤ weightMax) (sym (p .weights))
           (given-rules facts w i h .1 .score .in-range);
     }

@@ -94,7 +94,7 @@ module _ {W : Width} (facts : WidthFacts W) {given : Table} {c : ℕ} (w : Worka
   again-fit-below i h =
       again-fit W (facts .counts) d c cs (given-falls (given .rows) (omega arith)) given-full (entriesOf given i) (given-listed i h)
       (subst (λ (n : ℕ). few (n - 1) (d - 1) ≤ W .lengthMax) (sym (down-length (entryAt given) i))
-      (facts .tuples d (i - 1) (degree-range (w .degree) .1) (omega (arith, w .capped, w .filled)))) (given-others i h)
+      (facts .tuples d (i - 1) (degree-range (w .bounds .degree) .1) (omega (arith, w .bounds .capped, w .bounds .filled)))) (given-others i h)
 
   pub again-over-below : (i : ℕ) → i < given .rows
       → Over (W .countMax) (clustersIn given) (rowAt given i) (again rowFormula c (entriesOf given i))

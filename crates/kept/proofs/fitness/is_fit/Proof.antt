@@ -29,22 +29,22 @@ ascend c = passed (c .before .is-rising .ensures) (c .if5 .left)
 returns : tie.Need-returns
 returns c =
     let t = c .before .args .t1 in
-    sym (unfit narrow narrow-facts t (λ (f : FitTable narrow t). omega (arith, degree-range {d = t .degree} (f .degree) .0, c .if1 .taken)))
+    sym (unfit narrow narrow-facts t (λ (f : FitTable narrow t). omega (arith, degree-range {d = t .degree} (f .bounds .degree) .0, c .if1 .taken)))
 
 returns-2 : tie.Need-returns-2
 returns-2 c =
     let t = c .before .before .args .t1 in
-    sym (unfit narrow narrow-facts t (λ (f : FitTable narrow t). omega (arith, degree-range {d = t .degree} (f .degree) .1, c .if2 .taken)))
+    sym (unfit narrow narrow-facts t (λ (f : FitTable narrow t). omega (arith, degree-range {d = t .degree} (f .bounds .degree) .1, c .if2 .taken)))
 
 returns-3 : tie.Need-returns-3
 returns-3 c =
     let t = c .before .before .before .args .t1 in
-    sym (unfit narrow narrow-facts t (λ (f : FitTable narrow t). omega (arith, f .some, c .if3 .taken)))
+    sym (unfit narrow narrow-facts t (λ (f : FitTable narrow t). omega (arith, f .bounds .filled, c .if3 .taken)))
 
 returns-4 : tie.Need-returns-4
 returns-4 c =
     let t = c .before .before .before .before .args .t1 in
-    sym (unfit narrow narrow-facts t (λ (f : FitTable narrow t). omega (arith, f .capped, c .if4 .taken)))
+    sym (unfit narrow narrow-facts t (λ (f : FitTable narrow t). omega (arith, f .bounds .capped, c .if4 .taken)))
 
 returns-5 : tie.Need-returns-5
 returns-5 c =

@@ -4,9 +4,9 @@ use borrow.Author.Needs.{needs}
 use borrow.Author.Tests.{not-true, not-false}
 use mir.Syntax.{w64}
 use mir.Val.{ofZ}
+use Rattle.laws.proofs.Signed.{same-bits}
 use Rattle.laws.proofs.Tests.{passed, failed}
 use Rattle.kept.specs.View.{resultAt}
-use Rattle.members.proofs.Laws.Weighed.{same-bits}
 use Rattle.members.proofs.Laws.Gathered.{gathered-fits, gathered-count}
 use Rattle.members.proofs.Laws.Draw.{found-unscored, found-other, found-no-tree, found-tree}
 use Rattle.members.proofs.draw.drawn_members.Statement.{statement}
@@ -24,7 +24,7 @@ second-first s = s .before .before .before
 
 second-passed : (s : tie.Else2) → let held = first-gathered (second-first s) in let a = gathered-start held .args in
     held .members-of .result .weight ≡ resultAt (a .t1) (a .row) .best
-second-passed s = same-bits (search needs) (search needs) (s .if2 .left)
+second-passed s = same-bits w64 (search needs) (search needs) (s .if2 .left)
 
 -- ---- the needs
 returns : tie.Need-returns

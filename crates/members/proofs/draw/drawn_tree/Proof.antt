@@ -23,7 +23,7 @@ is-fit-there : (s : tie.After-place-of) → isFit narrow (looked-start s .args .
 is-fit-there s = let fit = s .before .before in passed (fit .before .is-fit .ensures) (fit .if1 .left)
 
 rows-capped : (s : tie.After-place-of) → looked-start s .args .t1 .rows ≤ rowCap
-rows-capped s = isFit→ narrow narrow-facts (looked-start s .args .t1) (true-T (is-fit-there s)) .capped
+rows-capped s = isFit→ narrow narrow-facts (looked-start s .args .t1) (true-T (is-fit-there s)) .bounds .capped
 
 row-is : (s : tie.After-place-of) → s .place-of .result ≡ leafRow (looked-start s .args .t1)
 row-is s = s .place-of .ensures ∙ ap (placeOf (looked-start s .args .t1)) (s .before .leaf-set .ensures)

@@ -23,7 +23,7 @@ mod Places
 put-starts-requires : tie.Need-put-starts-requires Inv-loop μ-loop
 put-starts-requires c κs =
     let w = c .before .pre in
-    (refl, (omega (arith, w .capped), (w .rising, λ i h. cluster-word narrow-facts w i h)))
+    (refl, (omega (arith, w .bounds .capped), (w .rising, λ i h. cluster-word narrow-facts w i h)))
 
 worked-requires : tie.Need-worked-requires Inv-loop μ-loop
 worked-requires c κs =
@@ -67,7 +67,7 @@ again-spec =
     (tie.spec
     Inv-loop
     μ-loop
-    (λ c. omega (arith, c .pre .capped))
+    (λ c. omega (arith, c .pre .bounds .capped))
     put-starts-requires
     (λ c. partly-start narrow-facts (c .before .before .pre))
     (λ c. omega (arith, room c))

@@ -38,7 +38,7 @@ pub fit : (c : tie.Else1) → isFit narrow (c .before .before .args .t1) ≡ tru
 fit c = passed (c .before .is-fit .ensures) (c .if1 .left)
 
 pub capped : (c : tie.Else1) → c .before .before .args .t1 .rows ≤ rowCap
-capped c = isFit→ narrow narrow-facts (c .before .before .args .t1) (true-T (fit c)) .capped
+capped c = isFit→ narrow narrow-facts (c .before .before .args .t1) (true-T (fit c)) .bounds .capped
 
 -- ---- the row of the cluster
 

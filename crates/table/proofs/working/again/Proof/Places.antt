@@ -52,7 +52,7 @@ abbrev pub rowsAt : tie.At-loop Inv-loop μ-loop → Table
 rowsAt c = let l = c .loop in columnsWith (start c) (l .lengths) (l .counts) (l .marks) (l .bests) (l .lows) (l .highs)
 
 pub room : (c : tie.In-loop Inv-loop μ-loop) → c .before .loop .next < rowCap
-room c = omega (arith, c .loop-test .taken, start (c .before) .pre .capped)
+room c = omega (arith, c .loop-test .taken, start (c .before) .pre .bounds .capped)
 
 pub weight-fits : (c : tie.In-loop Inv-loop μ-loop) → SFits w32 (getD (rowsAt (c .before) .weights) (c .before .loop .next) (pos 0))
 weight-fits c =
