@@ -1,0 +1,193 @@
+-- THE DEMANDS (RULES 12), each a record whose fields are its sentences, about the definitions that the promises of the public operations
+-- cite. Every request changes this file or leaves it alone. That each is met, for every list of bytes, degree bound, table and room:
+-- `proofs/Theorems.antt`. Its words: `Sending.antt` and `Refusals.antt` (demand 1), `Trees.antt` (demand 2), `Worked.antt`.
+--     Demand1             every input has its answer: success exactly when, each refusal exactly when, and what then stays
+--     RowsTell W d l t    demand 2, of each row: the table t tells the trees of the list l
+--     Draws W d l t       demand 2, of what is drawn of it
+--     Prints d l          demand 2, of the printed line
+--     RoundTrips          demand 2, of records
+--     Demand2             all of this for every accepted list, changed or not, with its table, rescored or not
+--     Demand3             a rescored table is the fresh build, and what a rescoring leaves alone
+--     Reworks             tables that no build made: what stands in a row that a rescoring works out again
+-- Assumes nothing.
+use mathlib.Core.Path.{_≡_}
+use mathlib.Core.Logic.{_≢_, _↔_}
+use mathlib.Core.List.{List, [], _++_, List·Memᴰ as Mem}
+use Prim.Native.Nat.{ℕ, _^_, _≤_, _<_}
+use lib.Dec.{T}
+use lib.IntN.{ℤ}
+use lib.ListN.{length, take, drop}
+use Rattle.laws.specs.Cluster.{inside}
+use Rattle.laws.specs.Limits.{Width, narrow, rowCap}
+use Rattle.laws.specs.Row.{Row}
+use Rattle.trees.specs.Heaviest.{weightOf, tieFirst}
+use Rattle.trees.specs.Built.{rowLength}
+use Rattle.trees.specs.Rescored.{putScore}
+use Rattle.shapes.specs.Characters.{characters}
+use Rattle.shapes.specs.Decimal.{decimal}
+use Rattle.shapes.specs.Shape.{Shape}
+use Rattle.shapes.specs.Text.{textBytes}
+use Rattle.shapes.specs.Drawn.{ascending}
+use Rattle.answers.specs.declared.refusal.Answer.the-variants.{Done}
+use Rattle.answers.specs.Outcome.{Outcome, outcomeOf, written}
+use Rattle.cluster.specs.declared.record.Record.{Record}
+use Rattle.cluster.specs.Record.{recordBytes, rowIn}
+use Rattle.cluster.specs.Rule.{KeepsScore, keepsRules}
+use Rattle.cluster.specs.Reading.{zeroRecord, readRecord}
+use Rattle.cluster.specs.Writing.{writeRecord}
+use Rattle.lists.specs.Records.{rowsOf}
+use Rattle.lists.specs.Listing.{listed, readList}
+use Rattle.lists.specs.Accepted.{Bytes, Accepted, HasCluster}
+use Rattle.kept.specs.declared.table.Table.{Table}
+use Rattle.kept.specs.View.{rowAt, resultAt, entryAt, zeroTable}
+use Rattle.kept.specs.Rows.{leafSet}
+use Rattle.members.specs.Draw.{leafRow, membersOf, noMembers, drawnTree}
+use Rattle.table.specs.Build.{buildTable}
+use Rattle.table.specs.Rescore.{rescoreTable}
+use Rattle.table.specs.Changes.{AcceptedBytes, changeAll, rescoreAll}
+use Rattle.drawing.specs.Built.{listMax}
+use Rattle.drawing.specs.Draw.{drawTree, leafText, noText, drawnText, drawText}
+use Rattle.report.specs.Words.{signed, refusedLine}
+use Rattle.report.specs.Line.{lineCap, lineOf, lineInto}
+use Rattle.demands.specs.Sending.{nothing, refusal, Answered}
+use Rattle.demands.specs.Refusals.{Degree, RecordKept, Kept, HasRow, Fit, Drawable}
+use Rattle.demands.specs.Refusals.{reading, writing, listing, building, rescoring, drawing, intoRoom}
+use Rattle.demands.specs.Trees.{leafSetOf, treesAt, treesOf, FirstBy, TellsTrees, ShapeOf, printedCount}
+use Rattle.demands.specs.Worked.{WorkedRow}
+
+-- ---- demand 1: every list, every degree bound and every kept table gets an answer
+
+pub record Demand1 : Type 0 where
+  -- records
+  pub read-record : (l : List ℕ) → Answered (readRecord l) (reading l) ((length l ≡ recordBytes) × RecordKept l) zeroRecord
+  pub write-record : (r : Record) (room : List ℕ)
+      → Answered (writeRecord r room) (writing r room) (Kept r × (recordBytes ≤ length room)) room
+  -- lists
+  pub read-list : (l : List ℕ) → Answered (readList narrow l) (listing narrow l) (Accepted narrow l) (listed [])
+  pub build : (l : List ℕ) (d : ℕ) → Answered (buildTable narrow l d) (building narrow l d) (Degree d × Accepted narrow l) zeroTable
+  -- tables
+  pub rescore : (t : Table) (c : ℕ) (z : ℤ) (s : ℕ)
+      → Answered (rescoreTable narrow t c z s) (rescoring narrow t c z s) (Fit narrow t × HasRow t c × KeepsScore z s) t
+  pub drawn-tree : (t : Table) → Answered (drawnTree narrow t) (drawing narrow t nothing) (Drawable narrow t) noMembers
+  pub drawn-text : (t : Table) → Answered (drawnText narrow t) (drawing narrow t nothing) (Drawable narrow t) noText
+  -- tables and rooms
+  pub tree : (t : Table) (room : List ℕ) → let out = membersOf t in
+      Answered (drawTree narrow t room) (drawing narrow t (intoRoom out room)) (Drawable narrow t × (length out ≤ length room)) room
+  pub text : (t : Table) (room : List ℕ) → let out = leafText t in
+      Answered (drawText narrow t room) (drawing narrow t (intoRoom out room)) (Drawable narrow t × (length out ≤ length room)) room
+  -- bytes and rooms
+  pub put : (out room : List ℕ) → Answered (written [] out room) (intoRoom out room) (length out ≤ length room) room
+  -- a list is never refused by the line, which says why the list is
+  pub line : (l : List ℕ) (d : ℕ) (room : List ℕ) → let out = lineOf l d in
+      Answered (lineInto l d room) (intoRoom out room) (length out ≤ length room) room
+  pub line-refused : (l : List ℕ) (d n p : ℕ) → building narrow l d n p → (room : List ℕ)
+      → lineInto l d room ≡ written [] (refusedLine d (refusal n p)) room
+  pub line-enough : (l : List ℕ) (d : ℕ) (room : List ℕ) → d < 2 ^ 32 → lineCap ≤ length room → lineInto l d room .sent .number ≡ 0
+
+-- ---- demand 2: the trees of a list are counted, and the first heaviest is drawn
+
+module _ (W : Width) (d : ℕ) (l : List ℕ) where
+  abbrev rows : List Row
+  rows = rowsOf W l
+
+  abbrev trees : List (List ℕ)
+  trees = treesOf W d l
+
+  -- the tree that is drawn
+  abbrev pub First : List ℕ → Type 0
+  First ys = FirstBy tieFirst rows trees ys
+
+  module _ (t : Table) where
+    pub record RowsTell : Type 0 where
+      -- there is a row for each record, and no other
+      pub listed : (r : Row) → ((i : ℕ) × (i < t .rows) × (rowAt t i ≡ r)) ↔ Mem r rows
+      -- each tells the trees on its cluster, and how many tuples it has
+      pub each : (i : ℕ) → i < t .rows → TellsTrees W rows (treesAt W d l (rowAt t i .cluster)) (resultAt t i)
+      pub lengths : (i : ℕ) → i < t .rows → resultAt t i .length ≡ rowLength d rows (rowAt t i)
+      -- the leaf set's tells those of the list; where it has none, the list has no tree
+      pub leaves : leafSet t ≡ leafSetOf W l
+      pub leaf : leafRow t < t .rows → TellsTrees W rows trees (resultAt t (leafRow t))
+      pub no-leaf : (leafRow t < t .rows → ⊥) → trees ≡ []
+
+    pub record Draws : Type 0 where
+      -- 7 exactly where there is no tree, and never 8
+      pub no-tree : (room : List ℕ) → (drawTree W t room .sent ≡ refusal 7 0) ↔ (trees ≡ [])
+      pub no-text : (room : List ℕ) → (drawText W t room .sent ≡ refusal 7 0) ↔ (trees ≡ [])
+      pub tree-never : (room : List ℕ) → drawTree W t room .sent .number ≢ 8
+      pub text-never : (room : List ℕ) → drawText W t room .sent .number ≢ 8
+      -- otherwise there is one tree that none outweighs and that is first of those as heavy
+      pub first : trees ≢ [] → (ys : List ℕ) × First ys
+      pub only : (ys zs : List ℕ) → First ys → First zs → ys ≡ zs
+      -- the best weight is its weight; it is written as clusters, ascending; and as the print of its one ordered shape
+      pub best : (ys : List ℕ) → First ys → resultAt t (leafRow t) .best ≡ weightOf rows ys
+      pub tree : (ys : List ℕ) → FirstBy tieFirst rows trees ys → (room : List ℕ) → drawTree W t room ≡ written [] (ascending ys) room
+      pub shape : (ys : List ℕ) → First ys → (s : Shape) × ShapeOf ys s
+      pub shape-only : (ys : List ℕ) → First ys → (s u : Shape) → ShapeOf ys s → ShapeOf ys u → s ≡ u
+      pub text : (ys : List ℕ) → FirstBy tieFirst rows trees ys → (s : Shape) → ShapeOf ys s
+          → (room : List ℕ) → drawText W t room ≡ written [] (textBytes s) room
+      -- rooms that are always enough: two numbers a taxon less one, and as many bytes as a text may have
+      pub tree-enough : (room : List ℕ) → listMax W ≤ length room → drawTree W t room .sent .number ≢ 11
+      pub text-enough : (room : List ℕ) → W .textBytes ≤ length room → drawText W t room .sent .number ≢ 11
+
+-- the line of an accepted list, in every room
+abbrev pub Says : ℕ → List ℕ → List ℕ → Type 0
+Says d l bytes = (room : List ℕ) → lineInto l d room ≡ written [] bytes room
+
+pub record Prints (d : ℕ) (l : List ℕ) : Type 0 where
+  pub no-tree : Says d l (refusedLine d (refusal 7 0)) ↔ (treesOf narrow d l ≡ [])
+  pub never : Says d l (refusedLine d (refusal 8 0)) → ⊥
+  -- d, the count or `many`, the weight and the text
+  pub line : (ys : List ℕ) → First narrow d l ys → (s : Shape) → ShapeOf ys s → Says d l
+      (decimal d ++ characters " "
+      ++ printedCount narrow (length (treesOf narrow d l)) ++ characters " "
+      ++ signed (weightOf (rowsOf narrow l) ys) ++ characters " "
+      ++ textBytes s ++ characters "\n")
+
+pub record RoundTrips : Type 0 where
+  -- what is written, read again, is the record
+  pub written-read : (r : Record) (room : List ℕ) → T (keepsRules narrow (rowIn r)) → recordBytes ≤ length room
+      → readRecord (take recordBytes (writeRecord r room .given)) ≡ outcomeOf (Done 0) r
+  -- what is read, written again, is the bytes
+  pub read-written : (l room : List ℕ) → Bytes l → readRecord l .sent .number ≡ 0 → recordBytes ≤ length room
+      → writeRecord (readRecord l .given) room ≡ outcomeOf (Done recordBytes) (l ++ drop recordBytes room)
+
+pub record Demand2 : Type 0 where
+  pub rows : (l : List ℕ) (d : ℕ) (xs : List Row) → AcceptedBytes narrow l → Degree d
+      → RowsTell narrow d (changeAll narrow l xs) (rescoreAll narrow (buildTable narrow l d .given) xs)
+  pub drawn : (l : List ℕ) (d : ℕ) (xs : List Row) → AcceptedBytes narrow l → Degree d
+      → Draws narrow d (changeAll narrow l xs) (rescoreAll narrow (buildTable narrow l d .given) xs)
+  pub printed : (l : List ℕ) (d : ℕ) → AcceptedBytes narrow l → Degree d → Prints d l
+  pub records : RoundTrips
+
+-- ---- demand 3: a rescored table is the fresh build of the changed list
+
+pub record Demand3 : Type 0 where
+  -- after each of any changes, every field of it
+  pub fresh : (l : List ℕ) (d : ℕ) (xs : List Row) → AcceptedBytes narrow l → Degree d
+      → rescoreAll narrow (buildTable narrow l d .given) xs ≡ buildTable narrow (changeAll narrow l xs) d .given
+  -- where a change is taken: it names the cluster of a record, and has a score
+  pub taken : (l : List ℕ) (d : ℕ) (xs : List Row) (c : ℕ) (z : ℤ) (s : ℕ) → AcceptedBytes narrow l → Degree d
+      → (rescoreTable narrow (rescoreAll narrow (buildTable narrow l d .given) xs) c z s .sent .number ≡ 0)
+      ↔ (HasCluster narrow (changeAll narrow l xs) c × KeepsScore z s)
+  -- in any table: a row whose cluster doesn't contain the rescored one isn't changed
+  pub others : (t : Table) (c : ℕ) (z : ℤ) (s i : ℕ) → i < t .rows → (T (inside c (rowAt t i .cluster)) → ⊥)
+      → entryAt (rescoreTable narrow t c z s .given) i ≡ entryAt t i
+  -- nor the degree bound, the number of rows, and the rows past it
+  pub degree : (t : Table) (c : ℕ) (z : ℤ) (s : ℕ) → rescoreTable narrow t c z s .given .degree ≡ t .degree
+  pub rows : (t : Table) (c : ℕ) (z : ℤ) (s : ℕ) → rescoreTable narrow t c z s .given .rows ≡ t .rows
+  pub past : (t : Table) (c : ℕ) (z : ℤ) (s i : ℕ) → t .rows ≤ i → i < rowCap
+      → entryAt (rescoreTable narrow t c z s .given) i ≡ entryAt t i
+
+-- ---- tables that no build made
+
+-- an accepted rescoring of any fit table
+pub record Reworks : Type 0 where
+  -- one row gets the new weight and state
+  pub scored : (t : Table) (c : ℕ) (z : ℤ) (s : ℕ) → rescoreTable narrow t c z s .sent .number ≡ 0 → (i : ℕ) → i < t .rows
+      → rowAt (rescoreTable narrow t c z s .given) i ≡ putScore c z s (rowAt t i)
+  -- and each row that contains it is worked out from the rows of the table as they then stand
+  pub worked : (t : Table) (c : ℕ) (z : ℤ) (s : ℕ) → rescoreTable narrow t c z s .sent .number ≡ 0 → (i : ℕ) → i < t .rows
+      → T (inside c (rowAt t i .cluster)) → WorkedRow narrow (rescoreTable narrow t c z s .given) i
+  -- it is fit again
+  pub fit : (t : Table) (c : ℕ) (z : ℤ) (s : ℕ) → rescoreTable narrow t c z s .sent .number ≡ 0
+      → Fit narrow (rescoreTable narrow t c z s .given)

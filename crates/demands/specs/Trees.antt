@@ -1,0 +1,73 @@
+-- The words of demand 2: the trees of a list, and the one that is drawn (RULES 3, 4 and 9).
+--     leafSetOf W l          the leaf set of a list: the union of all its clusters
+--     treesAt W d l C        the trees on a cluster, of the listed, scored clusters of a list
+--     treesOf W d l          the trees of a list: those on its leaf set
+--     FirstBy before rs ts ys     ys is one of the sets ts; none is heavier, rs having the weights; and by `before` it comes before each
+--                            that is as heavy
+--     TellsTrees W rs ts v   the results of a row whose cluster has the trees ts
+--     ShapeOf ys s           s is an ordered shape whose vertices are the clusters ys
+--     printedCount W n       the number of trees as it is printed
+-- Assumes nothing.
+use mathlib.Core.Path.{_≡_}
+use mathlib.Core.Logic.{_⊎_, _↔_}
+use mathlib.Core.Bool.{Bool, cond}
+use mathlib.Core.List.{List, [], List·Memᴰ as Mem}
+use Prim.Native.Nat.{ℕ, _≤_, _<_}
+use lib.Dec.{T, leb}
+use lib.IntN.{pos}
+use lib.ListN.{length}
+use lib.Signed.{ltZ}
+use Rattle.laws.specs.Cluster.{unionOf}
+use Rattle.laws.specs.Limits.{Width}
+use Rattle.laws.specs.Lists.{Once, Same}
+use Rattle.laws.specs.Row.{Row}
+use Rattle.trees.specs.Rows.{clustersOf, scoredIn}
+use Rattle.trees.specs.Tree.{treesOn}
+use Rattle.trees.specs.Heaviest.{weightOf, tieFirst}
+use Rattle.trees.specs.Result.{Result, marksOf}
+use Rattle.lists.specs.Records.{rowsOf}
+use Rattle.shapes.specs.Characters.{characters}
+use Rattle.shapes.specs.Decimal.{decimal}
+use Rattle.shapes.specs.Shape.{Shape, verticesOf, isOrdered}
+
+-- ---- the trees of a list
+
+abbrev pub leafSetOf : Width → List ℕ → ℕ
+leafSetOf W l = unionOf (clustersOf (rowsOf W l))
+
+abbrev pub treesAt : Width → ℕ → List ℕ → ℕ → List (List ℕ)
+treesAt W d l C = treesOn (W .taxa) d (scoredIn (rowsOf W l)) C
+
+abbrev pub treesOf : Width → ℕ → List ℕ → List (List ℕ)
+treesOf W d l = treesAt W d l (leafSetOf W l)
+
+-- ---- the one that is drawn
+
+pub record FirstBy (before : List ℕ → List ℕ → Bool) (rs : List Row) (ts : List (List ℕ)) (ys : List ℕ) : Type 0 where
+  pub tree : Mem ys ts
+  pub heaviest : (zs : List ℕ) → Mem zs ts → T (ltZ (weightOf rs ys) (weightOf rs zs)) → ⊥
+  pub first : (zs : List ℕ) → Mem zs ts → weightOf rs zs ≡ weightOf rs ys → (zs ≡ ys) ⊎ T (before ys zs)
+
+-- ---- what a row tells of the trees on its cluster
+
+pub record TellsTrees (W : Width) (rs : List Row) (ts : List (List ℕ)) (v : Result) : Type 0 where
+  -- the mark is 1 exactly past the limit, else 0
+  pub many : (v .mark ≡ 1) ↔ (W .countMax < length ts)
+  pub exact : (v .mark ≡ 0) ↔ (length ts ≤ W .countMax)
+  -- the count is the number of trees, or the limit
+  pub count : length ts ≤ W .countMax → v .count ≡ length ts
+  pub limit : W .countMax < length ts → v .count ≡ W .countMax
+  -- best weight and member marks: all zero where there is no tree, else those of the first heaviest
+  pub none : ts ≡ [] → (v .best ≡ pos 0) × (v .members ≡ 0)
+  pub best : (ys : List ℕ) → FirstBy tieFirst rs ts ys → v .best ≡ weightOf rs ys
+  pub members : (ys : List ℕ) → FirstBy tieFirst rs ts ys → v .members ≡ marksOf (clustersOf rs) ys
+
+-- ---- how it is drawn
+
+pub record ShapeOf (ys : List ℕ) (s : Shape) : Type 0 where
+  pub ordered : T (isOrdered s)
+  pub once : Once (verticesOf s)
+  pub vertices : Same (verticesOf s) ys
+
+abbrev pub printedCount : Width → ℕ → List ℕ
+printedCount W n = cond (leb n (W .countMax)) (decimal n) (characters "many")
