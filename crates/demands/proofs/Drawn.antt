@@ -1,0 +1,9 @@
+-- Demand 2, in the order in which it builds up.
+-- the one tree that is drawn, and what a row tells
+pub mod First
+-- what the rows of a built table tell
+pub mod Told
+-- what is drawn of it
+pub mod Draws
+-- its printed line
+pub mod Lines
