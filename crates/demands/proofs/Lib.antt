@@ -1,5 +1,15 @@
--- demand 2
-mod Drawn
--- demand 3
+-- In the order in which they build on each other.
+-- how reasons are refusals in words, and what an operation with such reasons keeps to
+mod Answered
+-- the reasons of each operation are its refusals in words
+mod Reasons
+-- every input has its answer
+pub mod Demand1
+-- a rescored table is the fresh build
 pub mod Demand3
+-- what the rows of a built table tell, what is drawn of it, and its printed line
+mod Drawn
+-- the trees of a list are counted, and the first heaviest is drawn
 pub mod Demand2
+-- of each public operation, two outcomes that its promise allows are equal
+pub mod OneOutcome

@@ -1,0 +1,150 @@
+-- DEMAND 1 IS MET: every input has its answer, operation by operation.
+--     demand1      the record of `specs/Demands.antt`
+-- Assumes nothing.
+use mathlib.Core.Path.{_≡_, sym, ap, _∙_}
+use mathlib.Core.Option.{Option}
+use mathlib.Core.List.{List, []}
+use Prim.Native.Nat.{ℕ, _^_, _≤_, _<_}
+use native.Mathlib.Nat.{le-trans}
+use lib.IntN.{ℤ}
+use lib.ListN.{length}
+use Rattle.laws.specs.Limits.{narrow}
+use Rattle.laws.proofs.Width.{narrow-facts}
+use Rattle.answers.specs.declared.refusal.Refusal.{Refusal}
+use Rattle.answers.specs.Refusal.{Sent}
+use Rattle.answers.specs.Outcome.{written}
+use Rattle.answers.proofs.Laws.Reasons.{first-iff}
+use Rattle.cluster.specs.declared.record.Record.{Record}
+use Rattle.cluster.specs.Record.{recordBytes, rowIn, recordOf, bytesOf}
+use Rattle.cluster.specs.Rule.{KeepsScore}
+use Rattle.cluster.specs.Reading.{zeroRecord, readReasons, readRecord}
+use Rattle.cluster.specs.Writing.{writeReasons, writeRecord}
+use Rattle.lists.specs.Records.{rowsOf}
+use Rattle.lists.specs.Listing.{listed, listReasons, readList}
+use Rattle.lists.specs.Accepted.{Accepted}
+use Rattle.lists.proofs.Theorems.{accepted-iff}
+use Rattle.kept.specs.declared.table.Table.{Table}
+use Rattle.kept.specs.View.{tableOf, zeroTable}
+use Rattle.trees.specs.Built.{builtTable}
+use Rattle.members.specs.Draw.{membersOf, noMembers, drawnMembers, drawReasons, drawnTree}
+use Rattle.table.specs.Build.{buildReasons, buildTable}
+use Rattle.table.specs.Rescore.{rescoreReasons, newTable, rescoreTable}
+use Rattle.drawing.specs.Draw.{drawTree, leafText, noText, textAt, drawnText, drawText}
+use Rattle.report.specs.Words.{refusedLine}
+use Rattle.report.specs.Line.{lineCap, lineFor, tableLine, lineOf, lineInto}
+use Rattle.report.proofs.Laws.Line.{line-length-le, line-put}
+use Rattle.demands.specs.Sending.{nothing, refusal, Answered}
+use Rattle.demands.specs.Refusals.{Degree, RecordKept, Kept, HasRow, Fit, Drawable}
+use Rattle.demands.specs.Refusals.{reading, writing, listing, building, rescoring, drawing, intoRoom}
+use Rattle.demands.specs.Demands.{Demand1}
+use Rattle.demands.proofs.Answered.{says-none, says-room, refusal-is, answered, answered-room, answered-given}
+use Rattle.demands.proofs.Reasons.{says-reading, reading-none, says-writing, writing-none, says-listing, says-building}
+use Rattle.demands.proofs.Reasons.{building-none, says-rescoring, rescoring-none, says-drawing, drawing-none}
+
+-- ---- records
+
+read-answered : (l : List ℕ) → Answered (readRecord l) (reading l) ((length l ≡ recordBytes) × RecordKept l) zeroRecord
+unfolding readRecord
+read-answered l = answered (readReasons l) zeroRecord 0 (recordOf l) (says-reading l) (reading-none l)
+
+write-answered : (r : Record) (room : List ℕ)
+    → Answered (writeRecord r room) (writing r room) (Kept r × (recordBytes ≤ length room)) room
+unfolding writeRecord
+write-answered r room =
+    let out = bytesOf narrow (rowIn r) in
+    answered-room out room (writeReasons r) (says-writing r (says-room out room)) (writing-none r)
+
+-- ---- lists
+
+list-answered : (l : List ℕ) → Answered (readList narrow l) (listing narrow l) (Accepted narrow l) (listed [])
+unfolding readList
+list-answered l =
+    answered (listReasons narrow l) (listed []) 0 (listed (rowsOf narrow l)) (says-listing narrow l) (accepted-iff narrow l)
+
+build-answered : (l : List ℕ) (d : ℕ)
+    → Answered (buildTable narrow l d) (building narrow l d) (Degree d × Accepted narrow l) zeroTable
+unfolding buildTable
+build-answered l d =
+    answered (buildReasons narrow l d) zeroTable 0 (tableOf d (builtTable narrow d (rowsOf narrow l)))
+    (says-building narrow l d) (building-none narrow l d)
+
+-- ---- tables
+
+rescore-answered : (t : Table) (c : ℕ) (z : ℤ) (s : ℕ)
+    → Answered (rescoreTable narrow t c z s) (rescoring narrow t c z s) (Fit narrow t × HasRow t c × KeepsScore z s) t
+unfolding rescoreTable
+rescore-answered t c z s =
+    answered (rescoreReasons narrow t c z s) t 0 (newTable narrow t c z s) (says-rescoring t c narrow z s) (rescoring-none t c narrow z s)
+
+module _ (t : Table) where
+  drawn-tree-answered : Answered (drawnTree narrow t) (drawing narrow t nothing) (Drawable narrow t) noMembers
+  unfolding drawnTree
+  drawn-tree-answered =
+      answered (drawReasons narrow t) noMembers 0 (drawnMembers t)
+      (says-drawing narrow narrow-facts t says-none) (drawing-none narrow narrow-facts t)
+
+  drawn-text-answered : Answered (drawnText narrow t) (drawing narrow t nothing) (Drawable narrow t) noText
+  unfolding drawnText
+  drawn-text-answered =
+      answered (drawReasons narrow t) noText (length (leafText t)) (textAt t)
+      (says-drawing narrow narrow-facts t says-none) (drawing-none narrow narrow-facts t)
+
+  -- whatever is drawn, into a room
+  drawing-answered : (out room : List ℕ) → Answered (written (drawReasons narrow t) out room)
+      (drawing narrow t (intoRoom out room)) (Drawable narrow t × (length out ≤ length room)) room
+  drawing-answered out room =
+      answered-room out room (drawReasons narrow t)
+      (says-drawing narrow narrow-facts t (says-room out room)) (drawing-none narrow narrow-facts t)
+
+  module _ (room : List ℕ) where
+    tree-answered : Answered (drawTree narrow t room) (drawing narrow t (intoRoom (membersOf t) room))
+        (Drawable narrow t × (length (membersOf t) ≤ length room)) room
+    unfolding drawTree
+    tree-answered = drawing-answered (membersOf t) room
+
+    text-answered : Answered (drawText narrow t room) (drawing narrow t (intoRoom (leafText t) room))
+        (Drawable narrow t × (length (leafText t) ≤ length room)) room
+    unfolding drawText
+    text-answered = drawing-answered (leafText t) room
+
+-- ---- the line
+
+module _ (l : List ℕ) (d : ℕ) where
+  line-answered : (room : List ℕ)
+      → Answered (lineInto l d room) (intoRoom (lineOf l d) room) (length (lineOf l d) ≤ length room) room
+  unfolding lineInto
+  line-answered room = answered-given (lineOf l d) room
+
+  refused-line : (n p : ℕ) → building narrow l d n p → lineOf l d ≡ refusedLine d (refusal n p)
+  unfolding lineOf
+  refused-line n p h =
+      let k = says-building narrow l d .told n p .1 h in
+      let built = tableLine d (buildTable narrow l d .given) in
+      ap (λ (o : Option Refusal). lineFor d o built) (first-iff (buildReasons narrow l d) (k .0) .1 (k .1))
+      ∙ ap (λ (s : Sent). refusedLine d s) (refusal-is (k .0) (k .2) (k .3))
+
+  line-refused : (n p : ℕ) → building narrow l d n p → (room : List ℕ)
+      → lineInto l d room ≡ written [] (refusedLine d (refusal n p)) room
+  line-refused n p h room = sym (line-put l d room) ∙ ap (λ (out : List ℕ). written [] out room) (refused-line n p h)
+
+  line-enough : (room : List ℕ) → d < 2 ^ 32 → lineCap ≤ length room → lineInto l d room .sent .number ≡ 0
+  line-enough room h k = line-answered room .taken .1 (le-trans (line-length-le l d h) k)
+
+-- ---- all of them
+
+pub demand1 : Demand1
+demand1 = record {
+  read-record = read-answered;
+  write-record = write-answered;
+  read-list = list-answered;
+  build = build-answered;
+  rescore = rescore-answered;
+  drawn-tree = drawn-tree-answered;
+  drawn-text = drawn-text-answered;
+  tree = tree-answered;
+  text = text-answered;
+  put = answered-given;
+  line = line-answered;
+  line-refused = line-refused;
+  line-enough = line-enough;
+}
