@@ -1,14 +1,19 @@
 -- DEMAND 1 IS MET: every input has its answer, operation by operation.
 --     demand1      the record of `specs/Demands.antt`
 -- Assumes nothing.
-use mathlib.Core.Path.{_≡_, sym, ap, _∙_}
+use mathlib.Core.Path.{_≡_, sym, ap, _∙_, subst}
+use mathlib.Core.Logic.{_↔_}
 use mathlib.Core.Option.{Option}
 use mathlib.Core.List.{List, []}
 use Prim.Native.Nat.{ℕ, _^_, _≤_, _<_}
-use native.Mathlib.Nat.{le-trans}
+use native.Mathlib.Nat.{le-trans, min-eq-left}
+use lib.Dec.{T, ltb→lt, lt→ltb}
 use lib.IntN.{ℤ}
-use lib.ListN.{length}
-use Rattle.laws.specs.Limits.{narrow}
+use lib.ListN.{length, getD}
+use Rattle.laws.specs.Cluster.{inside, unionOf}
+use Rattle.laws.specs.Limits.{narrow, rowCap}
+use Rattle.laws.proofs.Cluster.{inside-trans, inside-unionOf, taxon-of-unionOf}
+use Rattle.laws.proofs.Down.{mem-down, down-mem}
 use Rattle.laws.proofs.Width.{narrow-facts}
 use Rattle.answers.specs.declared.refusal.Refusal.{Refusal}
 use Rattle.answers.specs.Refusal.{Sent}
@@ -24,7 +29,9 @@ use Rattle.lists.specs.Listing.{listed, listReasons, readList}
 use Rattle.lists.specs.Accepted.{Accepted}
 use Rattle.lists.proofs.Theorems.{accepted-iff}
 use Rattle.kept.specs.declared.table.Table.{Table}
-use Rattle.kept.specs.View.{tableOf, zeroTable}
+use Rattle.kept.specs.View.{rowAt, clustersDown, tableOf, zeroTable}
+use Rattle.kept.specs.Rows.{placeOf, leafSet}
+use Rattle.kept.proofs.Laws.Rows.{placeOf-at, hasRow-is}
 use Rattle.trees.specs.Built.{builtTable}
 use Rattle.members.specs.Draw.{membersOf, noMembers, drawnMembers, drawReasons, drawnTree}
 use Rattle.table.specs.Build.{buildReasons, buildTable}
@@ -39,7 +46,7 @@ use Rattle.demands.specs.Refusals.{reading, writing, listing, building, 
 use Rattle.demands.specs.Demands.{Demand1}
 use Rattle.demands.proofs.Answered.{says-none, says-room, refusal-is, answered, answered-room, answered-given}
 use Rattle.demands.proofs.Reasons.{says-reading, reading-none, says-writing, writing-none, says-listing, says-building}
-use Rattle.demands.proofs.Reasons.{building-none, says-rescoring, rescoring-none, says-drawing, drawing-none}
+use Rattle.demands.proofs.Reasons.{building-none, row-iff, says-rescoring, rescoring-none, says-drawing, drawing-none}
 
 -- ---- records
 
@@ -69,6 +76,33 @@ build-answered l d =
     (says-building narrow l d) (building-none narrow l d)
 
 -- ---- tables
+
+module _ (t : Table) (capped : t .rows ≤ rowCap) where
+  place-iff : (c : ℕ) → (placeOf t c < t .rows) ↔ HasRow t c
+  place-iff c =
+      let is = hasRow-is t capped c in (
+        λ h. row-iff t c .0 (subst T (sym is) (lt→ltb (placeOf t c) (t .rows) h)),
+        λ q. ltb→lt (placeOf t c) (t .rows) (subst T is (row-iff t c .1 q)),
+      )
+
+  taxon-iff : (x : ℕ) → T (inside (2 ^ x) (leafSet t)) ↔ ((i : ℕ) × (i < t .rows) × T (inside (2 ^ x) (rowAt t i .cluster)))
+  taxon-iff x = (to, from)
+    where
+      union-is : leafSet t ≡ unionOf (clustersDown (t .clusters) (t .rows))
+      union-is = ap (λ (n : ℕ). unionOf (clustersDown (t .clusters) n)) (min-eq-left capped)
+
+      to : T (inside (2 ^ x) (leafSet t)) → (i : ℕ) × (i < t .rows) × T (inside (2 ^ x) (rowAt t i .cluster))
+      to h =
+          let q = taxon-of-unionOf (clustersDown (t .clusters) (t .rows)) x (subst (λ (c : ℕ). T (inside (2 ^ x) c)) union-is h) in
+          let p = mem-down (λ (i : ℕ). getD (t .clusters) i 0) (t .rows) (q .0) (q .1) in
+          (p .0, p .1, subst (λ (c : ℕ). T (inside (2 ^ x) c)) (p .2) (q .2))
+
+      from : (i : ℕ) × (i < t .rows) × T (inside (2 ^ x) (rowAt t i .cluster)) → T (inside (2 ^ x) (leafSet t))
+      from q =
+          let m = down-mem (λ (i : ℕ). getD (t .clusters) i 0) (t .rows) (q .0) (q .1) in
+          let c = rowAt t (q .0) .cluster in
+          subst (λ (u : ℕ). T (inside (2 ^ x) u)) (sym union-is)
+          (inside-trans (2 ^ x) c _ (q .2) (inside-unionOf (clustersDown (t .clusters) (t .rows)) c m))
 
 rescore-answered : (t : Table) (c : ℕ) (z : ℤ) (s : ℕ)
     → Answered (rescoreTable narrow t c z s) (rescoring narrow t c z s) (Fit narrow t × HasRow t c × KeepsScore z s) t
@@ -138,6 +172,9 @@ demand1 = record {
   write-record = write-answered;
   read-list = list-answered;
   build = build-answered;
+  place-of = λ t c capped. place-iff t capped c;
+  place-at = λ t c capped. placeOf-at t capped c;
+  leaf-set = λ t x capped. taxon-iff t capped x;
   rescore = rescore-answered;
   drawn-tree = drawn-tree-answered;
   drawn-text = drawn-text-answered;

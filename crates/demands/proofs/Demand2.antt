@@ -2,7 +2,7 @@
 --     after-changes     what is so of the built table of every accepted list is so of one that was built and then rescored
 --     demand2           the demand
 -- Assumes nothing.
-use mathlib.Core.Path.{sym, _∙_, subst}
+use mathlib.Core.Path.{refl, sym, _∙_, subst}
 use mathlib.Core.List.{List}
 use Prim.Native.Nat.{ℕ}
 use lib.Dec.{T}
@@ -17,8 +17,8 @@ use Rattle.table.specs.Build.{buildTable}
 use Rattle.table.specs.Changes.{AcceptedBytes, changeAll, rescoreAll}
 use Rattle.table.proofs.Changing.Changes.{changes-accepted}
 use Rattle.table.proofs.Laws.Build.{Buildable, buildable}
+use Rattle.table.proofs.Theorems.{built-table}
 use Rattle.drawing.specs.Built.{builtFrom}
-use Rattle.drawing.proofs.DrawnLists.{build-is}
 use Rattle.demands.specs.Demands.{RowsTell, Draws, RoundTrips, Demand2}
 use Rattle.demands.proofs.Demand3.{fresh, degree-in}
 use Rattle.demands.proofs.Drawn.Told.{rows-tell}
@@ -31,7 +31,7 @@ module _ {W : Width} (facts : WidthFacts W) (l : List ℕ) (d : ℕ) (degree : T
   after-changes P f =
       let m = changeAll W l xs in
       let b = changes-accepted facts xs a in
-      subst (P m) (sym (fresh facts d degree xs a ∙ build-is W facts m d degree b)) (f m (buildable facts degree (b .byte) (b .accepted)))
+      subst (P m) (sym (fresh facts d degree xs a ∙ built-table W m d degree (b .accepted))) (f m (buildable facts degree (b .byte) (b .accepted)))
 
 round-trips : RoundTrips
 round-trips = record { written-read = read-write-back; read-written = write-read-back }
@@ -41,5 +41,6 @@ demand2 = record {
   rows = λ l d xs a q. after-changes narrow-facts l d (degree-in d q) xs a (RowsTell narrow d) (rows-tell narrow narrow-facts d);
   drawn = λ l d xs a q. after-changes narrow-facts l d (degree-in d q) xs a (Draws narrow d) (draws narrow narrow-facts d);
   printed = λ l d a q. prints l d (degree-in d q) a;
+  rooms = (refl, refl, refl);
   records = round-trips;
 }

@@ -2,6 +2,7 @@
 --     says-reading, reading-none     one record
 --     says-writing, writing-none     one record into a room
 --     says-listing, says-building, building-none     a list
+--     row-iff     a cluster has a row
 --     says-rescoring, rescoring-none     a rescoring
 --     says-drawing, drawing-none     what is drawn of a table
 -- Assumes nothing.
@@ -116,7 +117,7 @@ module _ (W : Width) (l : List ℕ) where
 -- ---- rows of a table
 
 module _ (t : Table) (c : ℕ) where
-  row-iff : T (hasRow t c) ↔ HasRow t c
+  pub row-iff : T (hasRow t c) ↔ HasRow t c
   row-iff =
       let one-of = elem-down-iff (λ (i : ℕ). getD (t .clusters) i 0) (t .rows) c in (
         λ h. let q = one-of .0 (subst (λ (cs : List ℕ). T (elem c cs)) (clusters-are t (t .rows)) h) in (q .0, q .1, sym (q .2)),

@@ -9,6 +9,7 @@
 --     Demand2             all of this for every accepted list, changed or not, with its table, rescored or not
 --     Demand3             a rescored table is the fresh build, and what a rescoring leaves alone
 --     Reworks             tables that no build made: what stands in a row that a rescoring works out again
+--     Demands             all of them, with one outcome for every public operation (`OneOutcome.antt`)
 -- Assumes nothing.
 use mathlib.Core.Path.{_≡_}
 use mathlib.Core.Logic.{_≢_, _↔_}
@@ -40,7 +41,7 @@ use Rattle.lists.specs.Listing.{listed, readList}
 use Rattle.lists.specs.Accepted.{Bytes, Accepted, HasCluster}
 use Rattle.kept.specs.declared.table.Table.{Table}
 use Rattle.kept.specs.View.{rowAt, resultAt, entryAt, zeroTable}
-use Rattle.kept.specs.Rows.{leafSet}
+use Rattle.kept.specs.Rows.{placeOf, leafSet}
 use Rattle.members.specs.Draw.{leafRow, membersOf, noMembers, drawnTree}
 use Rattle.table.specs.Build.{buildTable}
 use Rattle.table.specs.Rescore.{rescoreTable}
@@ -54,6 +55,7 @@ use Rattle.demands.specs.Refusals.{Degree, RecordKept, Kept, HasRow, Fit
 use Rattle.demands.specs.Refusals.{reading, writing, listing, building, rescoring, drawing, intoRoom}
 use Rattle.demands.specs.Trees.{leafSetOf, treesAt, treesOf, FirstBy, TellsTrees, ShapeOf, printedCount}
 use Rattle.demands.specs.Worked.{WorkedRow}
+use Rattle.demands.specs.OneOutcome.{OneOutcome}
 
 -- ---- demand 1: every list, every degree bound and every kept table gets an answer
 
@@ -65,6 +67,11 @@ pub record Demand1 : Type 0 where
   -- lists
   pub read-list : (l : List ℕ) → Answered (readList narrow l) (listing narrow l) (Accepted narrow l) (listed [])
   pub build : (l : List ℕ) (d : ℕ) → Answered (buildTable narrow l d) (building narrow l d) (Degree d × Accepted narrow l) zeroTable
+  -- tables, which are all looked up in: a row that is found, and the taxa of the leaf set
+  pub place-of : (t : Table) (c : ℕ) → t .rows ≤ rowCap → (placeOf t c < t .rows) ↔ HasRow t c
+  pub place-at : (t : Table) (c : ℕ) → t .rows ≤ rowCap → placeOf t c < t .rows → rowAt t (placeOf t c) .cluster ≡ c
+  pub leaf-set : (t : Table) (x : ℕ) → t .rows ≤ rowCap
+      → T (inside (2 ^ x) (leafSet t)) ↔ ((i : ℕ) × (i < t .rows) × T (inside (2 ^ x) (rowAt t i .cluster)))
   -- tables
   pub rescore : (t : Table) (c : ℕ) (z : ℤ) (s : ℕ)
       → Answered (rescoreTable narrow t c z s) (rescoring narrow t c z s) (Fit narrow t × HasRow t c × KeepsScore z s) t
@@ -142,6 +149,7 @@ pub record Prints (d : ℕ) (l : List ℕ) : Type 0 where
       ++ printedCount narrow (length (treesOf narrow d l)) ++ characters " "
       ++ signed (weightOf (rowsOf narrow l) ys) ++ characters " "
       ++ textBytes s ++ characters "\n")
+  pub enough : (room : List ℕ) → lineCap ≤ length room → lineInto l d room .sent .number ≢ 11
 
 pub record RoundTrips : Type 0 where
   -- what is written, read again, is the record
@@ -157,6 +165,7 @@ pub record Demand2 : Type 0 where
   pub drawn : (l : List ℕ) (d : ℕ) (xs : List Row) → AcceptedBytes narrow l → Degree d
       → Draws narrow d (changeAll narrow l xs) (rescoreAll narrow (buildTable narrow l d .given) xs)
   pub printed : (l : List ℕ) (d : ℕ) → AcceptedBytes narrow l → Degree d → Prints d l
+  pub rooms : (listMax narrow ≡ 63) × (narrow .textBytes ≡ 148) × (lineCap ≡ 172)
   pub records : RoundTrips
 
 -- ---- demand 3: a rescored table is the fresh build of the changed list
@@ -191,3 +200,13 @@ pub record Reworks : Type 0 where
   -- it is fit again
   pub fit : (t : Table) (c : ℕ) (z : ℤ) (s : ℕ) → rescoreTable narrow t c z s .sent .number ≡ 0
       → Fit narrow (rescoreTable narrow t c z s .given)
+
+-- ---- all of them
+
+pub record Demands : Type 0 where
+  pub first : Demand1
+  pub second : Demand2
+  pub third : Demand3
+  pub unbuilt : Reworks
+  -- strict marking: of each public operation, two outcomes that its promise allows are equal
+  pub only : OneOutcome

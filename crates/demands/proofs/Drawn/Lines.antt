@@ -10,6 +10,7 @@ use mathlib.Core.Option.{Option, none, some}
 use mathlib.Core.List.{List, [], _∷_, _++_, append-assoc}
 use mathlib.Core.List.{List·Memᴰ as Mem, List·Memᴰ·not-nil as mem-nil}
 use Prim.Native.Nat.{ℕ, _+_, _≤_, _<_}
+use native.Mathlib.Nat.{le-trans}
 use native.Mathlib.Omega.{arith}
 use lib.Dec.{T, T-not, eqb, leb, leb→le, le→leb}
 use lib.IntN.{ℤ}
@@ -19,7 +20,7 @@ use Rattle.laws.specs.Limits.{narrow, isDegree}
 use Rattle.laws.specs.Lists.{every}
 use Rattle.laws.specs.Row.{Row}
 use Rattle.laws.proofs.Tests.{T-and, cond-true, cond-false}
-use Rattle.laws.proofs.Width.{narrow-facts}
+use Rattle.laws.proofs.Width.{narrow-facts, degree-range}
 use Rattle.trees.specs.Result.{Result}
 use Rattle.trees.specs.Heaviest.{weightOf, firstHeaviest}
 use Rattle.trees.proofs.Counting.Capped.{past}
@@ -49,8 +50,8 @@ use Rattle.drawing.proofs.LeafRow.{leaf-set-is, leaf-listed}
 use Rattle.drawing.proofs.LeafTree.{members-back}
 use Rattle.drawing.proofs.DrawnTables.{refused-iff, drawn-iff}
 use Rattle.report.specs.Words.{signed, countWord, placeWord, refusedLine, treeLine}
-use Rattle.report.specs.Line.{lineFor, tableLine, lineOf}
-use Rattle.report.proofs.Laws.Line.{table-refused, built-done, line-put}
+use Rattle.report.specs.Line.{lineCap, lineFor, tableLine, lineOf, lineInto}
+use Rattle.report.proofs.Laws.Line.{table-refused, built-done, line-length-le, line-put}
 use Rattle.report.proofs.Laws.Words.{countWord-one, countWord-many}
 use Rattle.demands.specs.Demands.{First, Says, Prints}
 use Rattle.demands.specs.Sending.{refusal}
@@ -234,9 +235,16 @@ module _ (l : List ℕ) (d : ℕ) (degree : T (isDegree d)) (a : AcceptedBytes n
         ∙ ap (λ (z : ℤ). decimal d ++ characters " " ++ printedCount narrow (length trees) ++ characters " " ++ signed z
         ++ characters " " ++ textBytes s ++ characters "\n") (tell .best ys f)
 
+  enough : (room : List ℕ) → lineCap ≤ length room → lineInto l d room .sent .number ≢ 11
+  enough room h e =
+      let most = degree-range {d = d} degree .1 in
+      let done = written-whole [] (lineOf l d) room refl (le-trans (line-length-le l d (omega arith)) h) in
+      omega (arith, e, ap (λ (o : Outcome (List ℕ)). o .sent .number) (sym (line-put l d room) ∙ done))
+
   pub prints : Prints d l
   prints = record {
     no-tree = (λ e. no-tree (said (refusedLine d (refusal 7 0)) e), λ n. says (refusedLine d (refusal 7 0)) (none-line n));
     never = λ e. never-eight (said (refusedLine d (refusal 8 0)) e);
     line = λ ys f s p. says _ (tree-line ys f s p);
+    enough = enough;
   }
