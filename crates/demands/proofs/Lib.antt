@@ -11,5 +11,11 @@ pub mod Demand3
 mod Drawn
 -- the trees of a list are counted, and the first heaviest is drawn
 pub mod Demand2
+-- a row that is worked out from the rows of its table, in words
+mod Worked
+-- rescoring tables that no build made
+pub mod Reworks
 -- of each public operation, two outcomes that its promise allows are equal
 pub mod OneOutcome
+-- all of them
+pub mod Theorems

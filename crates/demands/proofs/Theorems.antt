@@ -1,0 +1,12 @@
+-- THE DEMANDS ARE MET: every sentence of `specs/Demands.antt`, for every list of bytes, every degree bound, every table and every room.
+--     demands-met     all of them
+-- Assumes nothing.
+use Rattle.demands.specs.Demands.{Demands}
+use Rattle.demands.proofs.Demand1.{demand1}
+use Rattle.demands.proofs.Demand2.{demand2}
+use Rattle.demands.proofs.Demand3.{demand3}
+use Rattle.demands.proofs.Reworks.{reworks}
+use Rattle.demands.proofs.OneOutcome.{one-outcome}
+
+pub demands-met : Demands
+demands-met = record { first = demand1; second = demand2; third = demand3; unbuilt = reworks; only = one-outcome }

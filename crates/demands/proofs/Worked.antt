@@ -1,0 +1,11 @@
+-- A row that is worked out again stands to the rows of its table as the paper's formulas say.
+-- places, and sublists by their images
+mod Lists
+-- the first key of several tuples, and the counts where there is none
+mod Keys
+-- tuples with no zero count, as keys and as sets
+mod Tuples
+-- a row worked out over all rows of its table
+pub mod Standing
+-- what then stands in it
+pub mod Row
