@@ -1,5 +1,5 @@
-//! The expected answer to a case, byte for byte. From "What is sent back" and
-//! "Drawing it" of document 01, in the probe's answer format.
+//! The expected answer to a case, byte for byte. From RULES 8 to 10, in the
+//! probe's answer format.
 
 use std::cell::RefCell;
 

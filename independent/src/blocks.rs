@@ -1,6 +1,5 @@
 //! Lists put together from parts, whose trees are known from the parts. From
-//! "What a tree is" of document 01; used where trying every set would take
-//! too long.
+//! what a tree is (RULES 3); used where trying every set would take too long.
 //!
 //! If each listed cluster strictly inside a joined cluster lies within one of
 //! its parts, then the children of the joined cluster are, for each part,

@@ -1,5 +1,5 @@
-//! Tables broken in one sentence of "fit" each, and fit tables right at the
-//! edge of a sentence. From "The table" of document 01.
+//! Tables broken in one sentence each of what a fit table is, and fit tables
+//! right at the edge of a sentence. From RULES 6.
 
 use crate::prng::Prng;
 use crate::table::{COUNT_END, LENGTH_END, ROOM, Results, Table};

@@ -1,6 +1,6 @@
 //! The seeded generator. Case number N of a seed asks operation N mod 9 + 1;
 //! the first cases of each operation are the special ones, the others are
-//! drawn at random. Covers every section of document 01.
+//! drawn at random. Covers every section of docs/RULES.md.
 
 use crate::answer::{Oracle, Origin};
 use crate::blocks::Made;

@@ -1,6 +1,6 @@
 //! Runs the program under test on a stream of cases and compares its answers
 //! with the expected ones, byte for byte. A difference is printed in a form
-//! that can be replayed. Holds no part of document 01, only the comparing.
+//! that can be replayed. Holds no part of the rules, only the comparing.
 
 use std::fs;
 use std::io::{self, Read, Write};

@@ -1,6 +1,6 @@
 //! What the generated cases cover, from their true answers: how often each
-//! refusal of "What is sent back" (document 01) is met by each operation, and
-//! how many trees the built lists have.
+//! refusal (RULES 8) is met by each operation, and how many trees the built
+//! lists have.
 
 use std::collections::BTreeMap;
 

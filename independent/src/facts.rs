@@ -1,7 +1,8 @@
 //! Facts from outside: numbers of trees that closed formulas give, held
 //! against the trees found by trying sets, and against a probe if there is
-//! one. From "What a tree is" and the tie rule of document 01, with document
-//! 000's Table 1 and document 001's example of section 4.2 as lists.
+//! one. From what a tree is and the tie rule (RULES 3 and 4), with Table 1 of
+//! Bryant and Steel, "Constructing Optimal Trees from Quartets", and the
+//! example of section 4.2 of Bryant's thesis as lists.
 //!
 //! With all weights zero the first tree takes, from the largest number down,
 //! every cluster it can: of an interval, or of all clusters, these are the
@@ -134,11 +135,11 @@ fn eight_groups_fact() -> Fact {
     Fact { says: "eight groups".into(), d: 3, rows, formula: 15u128.pow(8), table }
 }
 
-/// Document 000's Table 1, a to e as taxa 0 to 4.
+/// Table 1 of Bryant and Steel, a to e as taxa 0 to 4.
 const TABLE_1: [u32; 9] = [1, 2, 4, 6, 7, 8, 16, 24, 31];
 
-/// The example of section 4.2 of document 001, 1 to 5 as taxa 0 to 4: its "d"
-/// is the number of children, one less than ours.
+/// The example of section 4.2 of Bryant's thesis, 1 to 5 as taxa 0 to 4: its
+/// "d" is the number of children, one less than ours.
 const SECTION_4_2: [u32; 8] = [1, 2, 4, 7, 8, 16, 24, 31];
 
 fn all_facts() -> Vec<Fact> {
@@ -148,10 +149,10 @@ fn all_facts() -> Vec<Fact> {
     }
     all.extend((1..=7).map(all_clusters_fact));
     for (d, trees) in [(3, 1), (4, 5), (5, 7)] {
-        all.push(told_fact("Table 1 of document 000", d, &TABLE_1, trees));
+        all.push(told_fact("Table 1 of Bryant and Steel", d, &TABLE_1, trees));
     }
     for (d, trees) in [(3, 0), (4, 2)] {
-        all.push(told_fact("section 4.2 of document 001", d, &SECTION_4_2, trees));
+        all.push(told_fact("section 4.2 of Bryant's thesis", d, &SECTION_4_2, trees));
     }
     for (d, trees) in [(3, 15), (4, 25), (5, 26)] {
         all.push(told_fact("all clusters of four taxa", d, &full_block(&[0, 1, 2, 3]), trees));

@@ -1,6 +1,6 @@
-//! The rescoring formulas, literally. From the paragraph on rescoring under
-//! "The table" of document 01. They give the expected answer for fit tables
-//! that no build made; for built tables the trees themselves do.
+//! The rescoring formulas, literally. From RULES 7. They give the expected
+//! answer for fit tables that no build made; for built tables the trees
+//! themselves do.
 
 use crate::records::{Refusal, lawful, refuse};
 use crate::rules::{Tree, inside, keep_better};

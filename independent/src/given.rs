@@ -1,7 +1,6 @@
-//! What cases are made from, whether they are drawn at random or made in
-//! every run: a case and a table, each with what is known of it, the house
-//! list, and rescorings of a table. From "The table" and "Bench examples" of
-//! document 01.
+//! What cases are made from, whether they are drawn at random or made in every
+//! run: a case and a table, each with what is known of it, the house list, and
+//! rescorings of a table. From RULES 5 and 11.
 
 use crate::answer::{Oracle, Origin};
 use crate::blocks::Made;

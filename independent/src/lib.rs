@@ -1,6 +1,7 @@
-//! A comparison program for cluster tables, written from document 01 by
-//! trying sets of clusters. `main.rs` holds the commands; `bin/mock.rs` is a
-//! stand-in for the program under test, for trying out the comparison itself.
+//! A comparison program for cluster tables, written from the rules
+//! (docs/RULES.md) by trying sets of clusters. `main.rs` holds the commands;
+//! `bin/mock.rs` is a stand-in for the program under test, for trying out the
+//! comparison itself.
 
 pub mod answer;
 pub mod blocks;

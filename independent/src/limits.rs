@@ -1,5 +1,5 @@
 //! Lists with a number of trees right at the limit of a count field. From
-//! "The table" of document 01: 4,294,967,295 is exact, one more is many.
+//! RULES 5: 4,294,967,295 is exact, one more is many.
 //!
 //! Two kinds. At d = 3 two blocks of 16 taxa stand under one top, and their
 //! counts multiply. At d = 4 and 5 a left part and a right part share one
@@ -72,7 +72,7 @@ pub fn pair_list(rng: &mut Prng, pair: (&[u32], &[u32], u64)) -> Made {
     dressed(rng, &top.clusters(), top.joints(3), says)
 }
 
-/// The eight groups of document 01 with any weights.
+/// The eight groups (RULES 11) with any weights.
 pub fn eight_groups_list(rng: &mut Prng, d: u32) -> Made {
     let top = eight_groups();
     dressed(rng, &top.clusters(), top.joints(d), format!("eight groups at d = {d}"))

@@ -1,8 +1,8 @@
 //! Random lists of good records, of many shapes: few taxa with any clusters,
 //! trees laid over one another, intervals, caterpillars, groups under a top,
-//! and clusters that hardly fit together. Written against "The record" and
-//! "What a tree is" of document 01: ties, negative weights, unscored records,
-//! any order, lists with no tree.
+//! and clusters that hardly fit together. Written against the rules on records
+//! and trees (RULES 2 to 4): ties, negative weights, unscored records, any
+//! order, lists with no tree.
 
 use crate::answer::Oracle;
 use crate::blocks::{Made, full_block};

@@ -1,6 +1,6 @@
 //! The commands: a comparison of COUNT cases of every operation, a replay, a
 //! self-check without any program under test, and the outside facts. Holds no
-//! part of document 01.
+//! part of the rules.
 
 use std::env;
 use std::io;

@@ -1,7 +1,7 @@
 //! Streams that break the probe's format: cut off inside a case, a byte that
 //! names no operation, a length past what is allowed. What stands before the
-//! fault is answered, then comes one line. From the stream format; no part
-//! of document 01.
+//! fault is answered, then comes one line. From the stream format
+//! (docs/PROBE.md); no part of the rules.
 
 use crate::answer::{Oracle, Origin};
 use crate::blocks::Made;

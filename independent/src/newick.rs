@@ -1,5 +1,5 @@
-//! The tree taken out of a table, its text, and the printed line. From
-//! "What is sent back" (the order 8, 7, 8, 11) and "Drawing it" of document 01.
+//! The tree taken out of a table, its text, and the printed line. From RULES 8
+//! (the order 8, 7, 8, 11), 9 and 10.
 
 use crate::records::{Refusal, refuse};
 use crate::rules::{children, is_tree};

@@ -1,6 +1,6 @@
-//! A small seeded number source (no part of document 01). Every case draws
-//! from its own source, made from the seed and the case's number, so that a
-//! case can be made again without making those before it.
+//! A small seeded number source (no part of the rules). Every case draws from
+//! its own source, made from the seed and the case's number, so that a case
+//! can be made again without making those before it.
 
 pub struct Prng {
     state: u64,

@@ -1,6 +1,5 @@
 //! Records and lists: the twelve bytes, the rules a record keeps, and the
-//! refusals of a list in their order. From "The record" and "What is sent
-//! back" of document 01.
+//! refusals of a list in their order. From RULES 2 and 8.
 
 pub const WEIGHT_END: i32 = 1_000_000;
 pub const LIST_END: usize = 1_536;

@@ -1,5 +1,4 @@
-//! Lists that a build refuses, with any faults wanted at once. From "What is
-//! sent back" of document 01.
+//! Lists that a build refuses, with any faults wanted at once. From RULES 8.
 
 use crate::lists::random_rows;
 use crate::prng::Prng;

@@ -1,5 +1,5 @@
 //! What a tree is, the tie rule, and the search that tries sets of clusters.
-//! From "What a tree is" of document 01.
+//! From RULES 3 and 4.
 //!
 //! Each many-taxon cluster inside the top is taken or left out, and whatever
 //! can no longer become a tree is dropped. Members are settled one after the

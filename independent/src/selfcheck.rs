@@ -2,7 +2,7 @@
 //! each variant, in how many cases its expected answer is not the true one.
 //! And the program against itself: trying sets against the formulas, lists
 //! from parts against plain trying, found sets against the rule of a tree.
-//! Checks the readings of "What a tree is" and "The table" of document 01.
+//! Checks the readings of RULES 3 to 7.
 
 use crate::answer::{Method, Oracle, Origin};
 use crate::blocks::{Top, full_block, full_width_top};

@@ -1,5 +1,5 @@
 //! The whole table that a build should hand back, worked out from the trees.
-//! From "What a tree is" and "The table" of document 01.
+//! From RULES 3 to 5.
 //!
 //! A row's trees are found by trying sets (`rules`), unless the list was made
 //! so that they are known from its parts (`blocks`): then alternatives add

@@ -1,7 +1,7 @@
 //! The cases that every run makes: the bench examples, each refusal and each
 //! pair, record edges, rooms around what is due, tables broken in each
 //! sentence, the most rescorings, and counts at the limit. From all sections
-//! of document 01.
+//! of docs/RULES.md.
 
 use crate::answer::Origin;
 use crate::blocks::{Made, Top};

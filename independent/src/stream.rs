@@ -1,6 +1,6 @@
 //! The bytes of cases and answers, by the probe's stream format. Written so
-//! that a case can also be read back from a file for a replay. Of document 01
-//! only the fields of "The table" are in it.
+//! that a case can also be read back from a file for a replay. Of the rules
+//! only the fields of the table (RULES 5) are in it.
 
 use crate::formulas::Edit;
 use crate::records::Refusal;

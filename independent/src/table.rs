@@ -1,6 +1,6 @@
-//! The table as a value, and when it is fit. From "The table" of document 01.
-//! The fields are as wide as in the stream, so that a table can hold values
-//! that no fit table holds.
+//! The table as a value, and when it is fit. From RULES 5 and 6. The fields
+//! are as wide as in the stream, so that a table can hold values that no fit
+//! table holds.
 
 use crate::records::{Row, lawful};
 

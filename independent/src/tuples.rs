@@ -1,7 +1,7 @@
 //! The one search for tuples: sets of two or more pairwise disjoint clusters
-//! whose union is a given cluster. From "row length" under "The table" of
-//! document 01. Used for row lengths, and for the rescoring formulas on
-//! tables that no build made; never for the trees of a list.
+//! whose union is a given cluster. From what a row length is (RULES 5). Used
+//! for row lengths, and for the rescoring formulas on tables that no build
+//! made; never for the trees of a list.
 
 /// Hands every such set of at most `most` of the `clusters` (ascending, as
 /// indices) to `visit`. Sets are tried with rising indices, so each comes

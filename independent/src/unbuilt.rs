@@ -1,6 +1,6 @@
 //! Fit tables that no build made: random results that keep every sentence of
-//! "fit", built tables bent in some rows, and tables that mark another tree.
-//! From "The table" of document 01.
+//! what a fit table is, built tables bent in some rows, and tables that mark
+//! another tree. From RULES 6.
 
 use crate::lists::random_rows;
 use crate::newick::drawn_tree;

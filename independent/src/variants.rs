@@ -1,7 +1,7 @@
-//! The eight mistakes of "What students hand in" (document 01), each of which
-//! can be switched on in the expected answers. The fifth entry there has two
-//! sides and makes two variants. A comparison that is any good tells each of
-//! them from the truth.
+//! The eight mistakes that students make (docs/COMPARED.md), each of which can
+//! be switched on in the expected answers. A count at its limit has two sides
+//! and makes two of them. A comparison that is any good tells each of them
+//! from the truth.
 
 #[derive(Clone, Copy, PartialEq, Eq, Debug)]
 pub enum Variant {
@@ -45,7 +45,7 @@ impl Variant {
     }
 }
 
-/// The rules in force: those of document 01, or those with one mistake in.
+/// The rules in force: those of docs/RULES.md, or those with one mistake in.
 #[derive(Clone, Copy, Default)]
 pub struct Rules {
     pub variant: Option<Variant>,

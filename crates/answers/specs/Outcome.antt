@@ -1,5 +1,5 @@
--- How an operation ends: what it sends back, with the record, table or room that it hands back or leaves (document 01, "What is sent
--- back"). Laws: `proofs/Laws/Outcome.antt`.
+-- How an operation ends: what it sends back, with the record, table or room that it hands back or leaves (RULES 8). Laws:
+-- `proofs/Laws/Outcome.antt`.
 --     Outcome A                 what is sent back, and what is given: a record, a table, a room afterwards
 --     outcomeOf a x             the code's answer a and what it gave, in these terms
 --     ended f stays n given     refused f: this stays; else n is told, and this is given

@@ -1,5 +1,5 @@
--- Why an operation is refused: its reasons in the order in which they are tested, and the first that applies (document 01, "What is sent
--- back"). A further reason is one line in the list of an operation. Laws: `proofs/Laws/Reasons.antt`.
+-- Why an operation is refused: its reasons in the order in which they are tested, and the first that applies (RULES 8). A further reason is
+-- one line in the list of an operation. Laws: `proofs/Laws/Reasons.antt`.
 --     Reason, when b f       a test, and what is sent back where it holds
 --     firstReason rs         what is sent back: nothing where no reason applies
 --     First rs f             f is the first that applies

@@ -1,4 +1,4 @@
--- What is sent back, in the paper's own numbers (document 01, "What is sent back"). Laws: `proofs/Laws/Refusal.antt`.
+-- What is sent back, in the rules' own numbers (RULES 8). Laws: `proofs/Laws/Refusal.antt`.
 --     numberOf f       the number of a refusal, 1 to 11
 --     positionOf f     the position told with it: only 5 and 6 have one, else 0
 --     Sent             what an operation sends back beside its record, table or room

@@ -1,12 +1,12 @@
-// What is sent back: the refusals and the answer of an operation. Cites `specs/Refusal.antt`.
+// What is sent back: the refusals and the answer of an operation (RULES 8). Cites `specs/Refusal.antt`.
 //     Refusal       the eleven refusals, in the order of their numbers
 //     Answer        a success or a refusal
-//     number_of     the paper's number of a refusal
+//     number_of     the rules' number of a refusal
 //     position_of   the position told with it
 ghost use mathlib.Core.Path.{_≡_};
 ghost use Rattle.answers.specs.Refusal.{numberOf, positionOf};
 
-// Why an operation was refused. A case holds a position, from 0, where the paper has one.
+// Why an operation was refused. A case holds a position, from 0, where the rules have one.
 pub enum Refusal {
     // 1: the list has no bytes.
     NoBytes,
@@ -40,7 +40,7 @@ pub enum Answer {
     Refused(Refusal),
 }
 
-// The paper's number of a refusal, 1 to 11.
+// The rules' number of a refusal, 1 to 11.
 pub fn number_of(refusal: Refusal) -> u64
     ensures { λ n. ⌜ n ≡ numberOf refusal ⌝ }
 {
@@ -59,7 +59,7 @@ pub fn number_of(refusal: Refusal) -> u64
     }
 }
 
-// The position told with a refusal: 0 where the paper has none.
+// The position told with a refusal: 0 where the rules have none.
 pub fn position_of(refusal: Refusal) -> usize
     ensures { λ n. ⌜ n ≡ positionOf refusal ⌝ }
 {

@@ -1,7 +1,7 @@
--- What is true of records and their operations (document 01, "The record", "What is sent back", "Strict marking").
+-- What is true of records and their operations (RULES 2, 8 and 12).
 --     read-only             one outcome of `read_record`: the answer and the record
 --     write-only            one outcome of `write_record`: the answer and every byte of the room
---     kept-iff, score-iff   no rule is broken exactly where the paper's sentences hold (`Keeps`, `KeepsScore` of `specs/Rule.antt`)
+--     kept-iff, score-iff   no rule is broken exactly where the rules' sentences hold (`Keeps`, `KeepsScore` of `specs/Rule.antt`)
 --     read-accepts-iff      twelve bytes are accepted exactly when no rule is broken
 --     write-accepts-iff     and a record, where the room is long enough too
 --     read-write-back       what was written, read again, is the same record

@@ -1,4 +1,4 @@
--- Numbers as bytes, low byte first (document 01, "The record"). Laws, over any number of bytes: `proofs/Laws/Bytes.antt`.
+-- Numbers as bytes, low byte first (RULES 2). Laws, over any number of bytes: `proofs/Laws/Bytes.antt`.
 --     byteValues          how many values a byte has
 --     wordBytes           the bytes of a word, which a cluster and a weight are
 --     numberAt k l i      the number of the k bytes of l from place i

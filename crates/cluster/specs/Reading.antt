@@ -1,4 +1,4 @@
--- Reading one record (document 01, "What is sent back"). Laws: `proofs/Laws/Reading.antt`.
+-- Reading one record (RULES 8). Laws: `proofs/Laws/Reading.antt`.
 --     readingOf r       the code's reading as an outcome
 --     zeroRecord        the record that is all zero: the record read on a refusal
 --     ruleOf W l        the rule that the bytes of a record break first

@@ -1,6 +1,5 @@
 -- A record and its bytes, low byte first: first the cluster, unsigned; then four bytes of weight, signed two's complement; one of state;
--- three that are zero (document 01, "The record"). A narrow record has four bytes of cluster, and so twelve. Laws:
--- `proofs/Laws/Record.antt`.
+-- three that are zero (RULES 2). A narrow record has four bytes of cluster, and so twelve. Laws: `proofs/Laws/Record.antt`.
 --     weightAt, stateAt, spareAt W, spareBytes     where its parts start, and how many bytes are spare
 --     rowOf W l        the row that the bytes of a record hold
 --     hasSpare W l     one of the spare bytes isn't zero

@@ -1,4 +1,4 @@
--- The record rules (document 01, "The record"), told in the order of Ticket 3, of a cluster, a weight and a state as numbers. Laws:
+-- The record rules (RULES 2), in the order in which they are told, of a cluster, a weight and a state as numbers. Laws:
 -- `proofs/Laws/Rule.antt`.
 --     inRange z              a weight is -1,000,000 to 1,000,000
 --     unscoredWeight z s     the state is unscored and the weight isn't zero
@@ -6,7 +6,7 @@
 --     isKept u               no rule is broken
 --     isScore z s            weight and state keep the rules, whatever the cluster
 --     keepsRules W r         a row keeps them, and its cluster is within the width
---     Keeps c z s spare, KeepsScore z s     the rules as facts, a sentence of document 01 for each field
+--     Keeps c z s spare, KeepsScore z s     the rules as facts, a field for each sentence
 -- Assumes nothing.
 use mathlib.Core.Path.{_≡_}
 use mathlib.Core.Logic.{_≢_}
@@ -26,7 +26,7 @@ inRange = isWithin weightMax
 abbrev pub unscoredWeight : ℤ → ℕ → Bool
 unscoredWeight z s = eqb s unscored && not (eqb (natAbs z) 0)
 
--- a empty cluster, b state, c spare bytes, d unscored with a weight, e weight out of range: the first that applies
+-- empty cluster, state, spare bytes, unscored with a weight, weight out of range: the first that applies
 unfoldable pub brokenRule : ℕ → ℤ → ℕ → Bool → Rule
 brokenRule c z s spare =
     cond (eqb c 0) EmptyCluster

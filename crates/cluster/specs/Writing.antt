@@ -1,4 +1,4 @@
--- Writing one record (document 01, "What is sent back"). Laws: `proofs/Laws/Writing.antt`.
+-- Writing one record (RULES 8). Laws: `proofs/Laws/Writing.antt`.
 --     writeReasons r      why a record is not written, the room left aside: 5
 --     writeRecord r l     what writing r into the room l gives: 5 first, then 11 under 12 bytes of room; else its bytes stand first
 -- Assumes nothing.

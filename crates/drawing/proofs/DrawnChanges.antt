@@ -1,5 +1,5 @@
--- What is drawn of a built table after any changes, one after another (document 01, demands 2 and 3): what a fresh build of the changed
--- list would draw.
+-- What is drawn of a built table after any changes, one after another (RULES 12, demands 2 and 3): what a fresh build of the changed list
+-- would draw.
 --     rescored-refused-iff     7 is sent back exactly where the changed list has no tree
 --     rescored-drawn-iff       and a tree is drawn exactly where it has one, so that 8 is never sent back
 --     rescored-drawTree, rescored-drawText     the first heaviest tree of the changed list

@@ -1,4 +1,4 @@
--- What is drawn of the built table of an accepted list (document 01, demand 2): by the first heaviest of the trees of the list's records.
+-- What is drawn of the built table of an accepted list (RULES 12, demand 2): by the first heaviest of the trees of the list's records.
 --     build-is               the built table of the list is that of its rows, of which all of `DrawnTables.antt` holds
 --     build-refused-iff      7 is sent back exactly where the list has no tree
 --     build-drawn-iff        and a tree is drawn exactly where it has one

@@ -1,5 +1,5 @@
--- What is drawn of a built table (document 01, demand 2): the first heaviest tree, and 7 exactly where there is none. A rescored built
--- table is again a built table (`rescore-is-build` of `trees`), so all of this holds of it too. The tree: `LeafTree.antt`; the words:
+-- What is drawn of a built table (RULES 12, demand 2): the first heaviest tree, and 7 exactly where there is none. A rescored built table
+-- is again a built table (`rescore-is-build` of `trees`), so all of this holds of it too. The tree: `LeafTree.antt`; the words:
 -- `specs/Built.antt`.
 --     refused-iff            nothing is drawn, for want of a tree, exactly where there is none
 --     drawn-iff              a tree is drawn exactly where there is one

@@ -1,5 +1,5 @@
--- The leaf set of a built table, its row, and whether there is a tree on it (document 01, "The table"): what the table of accepted rows
--- shows, in terms of the rows it was built from. The words: `specs/Built.antt`.
+-- The leaf set of a built table, its row, and whether there is a tree on it (RULES 5): what the table of accepted rows shows, in terms of
+-- the rows it was built from. The words: `specs/Built.antt`.
 --     rows-are, clusters-down, shown-is, rising     the table's rows are those it was built from; it shows them all, ascending
 --     row-at                 each is one of them, with the results of its trees
 --     leaf-set-is            the leaf set of the table is that of the rows

@@ -1,5 +1,4 @@
--- The first heaviest tree on the leaf set of a built table is what the marks of its row say, and they may be drawn (document 01, "The
--- table" and "Drawing it").
+-- The first heaviest tree on the leaf set of a built table is what the marks of its row say, and they may be drawn (RULES 5 and 9).
 --     marks-tell       the marks of the clusters that pass a test, as a row of a built table has them, tell so row by row
 --     first-tree       where there is a tree, one of them is the first heaviest
 --     is-tree          it is a tree

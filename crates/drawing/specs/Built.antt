@@ -1,5 +1,5 @@
--- What a list's rows have to be drawn, stated by its trees: the words of the theorems (document 01, demand 2). Laws:
--- `proofs/LeafRow.antt`; the theorems stand in `proofs/DrawnTables.antt`, `proofs/DrawnLists.antt` and `proofs/DrawnChanges.antt`.
+-- What a list's rows have to be drawn, stated by its trees: the words of the theorems (RULES 12, demand 2). Laws: `proofs/LeafRow.antt`;
+-- the theorems stand in `proofs/DrawnTables.antt`, `proofs/DrawnLists.antt` and `proofs/DrawnChanges.antt`.
 --     builtFrom W d rs     the built table of rows
 --     leaves rs            the leaf set of rows
 --     treesOf W d rs       the trees on it

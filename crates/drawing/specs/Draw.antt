@@ -1,5 +1,5 @@
--- What is sent back when a tree or a text is asked for (document 01, "What is sent back" and "Drawing it"). What is drawn, and why nothing
--- is, stands in `specs/Draw.antt` of the crate `members`. Laws: `proofs/Laws/Draw.antt`.
+-- What is sent back when a tree or a text is asked for (RULES 8 and 9). What is drawn, and why nothing is, stands in `specs/Draw.antt` of
+-- the crate `members`. Laws: `proofs/Laws/Draw.antt`.
 --     drawTree W t l       what asking for the tree gives, in the room l
 --     leafText t           the text of the members of the leaf set's row
 --     TextAt, noText, textAt t     a row and a text; nothing drawn: all zero; what is drawn

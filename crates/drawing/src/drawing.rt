@@ -34,8 +34,8 @@ fn put_clusters(clusters: &[u64], room: &mut [u32])
     }
 }
 
-// The clusters of the first heaviest tree on the leaf set, ascending, at the start of a room counted in numbers; the answer tells how many.
-// Refused 8 (fitness), 7, 8 (marks), 11 in that order, and the room is then left as it was.
+// The clusters of the tree that the leaf set's row marks, ascending, at the start of a room counted in numbers; the answer tells how many.
+// Of a built table it is the first heaviest. Refused 8 (fitness), 7, 8 (marks), 11 in that order, and the room is then left as it was.
 pub fn tree(t: Table, room: &mut [u32]) -> Answer
     ensures { λ a. ⌜ outcomeOf a (now (room .exit)) ≡ drawTree narrow t (now (room .entry)) ⌝ }
 {

@@ -1,4 +1,4 @@
--- One bench example of document 01: what is given, and what is told of it.
+-- One bench example (RULES 11): what is given, and what is told of it.
 --     ToldTree            what is told of a tree that is drawn
 --     Ending              the refusal of this number is given, or a tree is drawn
 --     Case                a list, a degree bound, a rescoring where there is one, the rows that it changes, and how it ends

@@ -1,6 +1,7 @@
--- The bench examples P1 to P11 of document 01 as one table. Where document 01 names no degree bound (P6, P7), all three are tried. Every
--- number here is document 01's own but these, which follow from the list and the text that it prints: the members of all but P1, the
--- weight of P3, and the counts of P4, P5 and P11. That each case is right: `proofs/Theorems.antt`.
+-- The bench examples P1 to P11 (RULES 11) as one table. Every number is one that the rules name, but these, which follow from the list and
+-- from the text that is printed: the members of every case but P1; the weights of P3 and of P8, P9 and P10; the counts of P4, P5 and P11.
+-- For the house list count, weight and text at all three degree bounds are named by what `besttree` prints. P6 and P7 name no degree bound,
+-- and all three are tried. A cluster stands as its number: {5} is 32. That each case is right: `proofs/Theorems.antt`.
 --     houseWith a b       the house list, with the records a and b of {0,1} and {1,2}
 --     house               the house list
 --     leftOpen a          the house list with {1,2} unscored, and the record a of {0,1}

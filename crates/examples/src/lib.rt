@@ -1,2 +1,2 @@
-// The bench examples P1 to P11 of document 01. There is no function here: `specs/` has them as one table and says what it is that an
-// example is right, and `proofs/` that each of them is.
+// The bench examples P1 to P11 (RULES 11). There is no function here: `specs/` has them as one table and says what it is that an example is
+// right, and `proofs/` that each of them is.

@@ -1,4 +1,4 @@
--- What is all zero: results, and rows (document 01, "The table"). Laws: `proofs/Laws/Blank.antt`.
+-- What is all zero: results, and rows (RULES 5). Laws: `proofs/Laws/Blank.antt`.
 --     isZero z        a weight of nought
 --     isNothing v     no member is marked, and mark and best weight are zero
 --     isBlank v       every result is zero

@@ -1,4 +1,4 @@
--- What a fit table is, sentence by sentence (document 01, "The table"). A row's results: `Results.antt`. Laws: `proofs/Laws/Fit.antt`.
+-- What a fit table is, sentence by sentence (RULES 6). A row's results: `Results.antt`. Laws: `proofs/Laws/Fit.antt`.
 --     fitEntry W cs e          a row of the table whose clusters are cs
 --     isRising cs n            the first n clusters ascend strictly
 --     isRowRight W cs n i e    row i of a table of n rows: fit, or past them and all zero

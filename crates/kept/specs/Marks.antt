@@ -1,5 +1,5 @@
--- Member marks as one number: bit i is row i (document 01, "The table"). The clusters of all rows are a list with the largest first, so
--- that the number of the first one's row is how many clusters follow. Laws: `proofs/Laws/Marks.antt`.
+-- Member marks as one number: bit i is row i (RULES 5). The clusters of all rows are a list with the largest first, so that the number of
+-- the first one's row is how many clusters follow. Laws: `proofs/Laws/Marks.antt`.
 --     hasMark m i           row i is marked in the marks m
 --     everyMarked cs m p    every marked row's cluster passes p
 --     isMarkedIn cs m c     the row of the cluster c is marked

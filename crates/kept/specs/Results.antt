@@ -1,4 +1,4 @@
--- What the results of a fit row are, sentence by sentence (document 01, "The table"). Laws: `proofs/Laws/Results.antt`.
+-- What the results of a fit row are, sentence by sentence (RULES 6). Laws: `proofs/Laws/Results.antt`.
 --     isLength W r v      the row length is in range, and that of a one-taxon row is 0
 --     isMark W m n        a mark is 0 or 1, and 1 only beside a count of the limit
 --     isRanged W r v      the ranges of a row's results; unscored means that every result is zero

@@ -1,4 +1,4 @@
--- The table as rows with their results, and rows with their results as a table (document 01, "The table"). Laws: `proofs/Laws/View.antt`.
+-- The table as rows with their results, and rows with their results as a table (RULES 5). Laws: `proofs/Laws/View.antt`.
 --     rowAt, resultAt, entryAt row i of a table: what was listed, what was worked out, both
 --     entriesOf t n            the first n rows, the largest cluster first
 --     clustersIn t             the clusters of its rows

@@ -1,6 +1,6 @@
 // Whether a table is fit, whatever it holds. A row is copied out of the arrays once. Cites `specs/Fit.antt`, and `specs/Fields.antt` for
 // the private functions.
-//     is_fit           every sentence of document 01's "fit"
+//     is_fit           every sentence of what a fit table is (RULES 6)
 //     is_record        cluster, weight and state keep the record rules
 //     is_row_fit       one of the rows
 //     is_rising        the clusters ascend

@@ -1,10 +1,10 @@
 // The kept table, and what can be asked of it whatever it holds. Nothing public has a `requires`, and each `ensures` is one equation to a
-// definition of `specs/`. The crate `table` builds and rescores it, and passes on what the paper names.
+// definition of `specs/`. The crate `table` builds and rescores it, and passes on what the rules name.
 //     Table, zero_table         one value with room for 128 rows, and the one that is all zero
-//     is_fit                    every sentence of document 01's "fit", as one test
+//     is_fit                    every sentence of what a fit table is (RULES 6), as one test
 //     place_of, leaf_set        where a cluster's row stands, and the union of all clusters
 //     is_marked                 whether a row is among the members of another
-//     COUNT_MAX, ..             the paper's limits that the crates above compare with too
+//     COUNT_MAX, ..             the rules' limits that the crates above compare with too
 mod blank;
 mod fitness;
 mod limits;

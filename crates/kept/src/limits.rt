@@ -1,4 +1,4 @@
-// The paper's limits that the code compares with, each named once. `specs/Limits.antt` of the crate `laws` has them for the definitions.
+// The rules' limits that the code compares with, each named once. `specs/Limits.antt` of the crate `laws` has them for the definitions.
 // Rows that a table may have, and the room for rows in its arrays.
 pub(crate) const ROWS: usize = 128;
 

@@ -46,7 +46,7 @@ pub mod First
 pub mod State
 -- one field of rows in an array
 pub mod Column
--- what is asked of a width holds of the paper's own
+-- what is asked of a width holds of the rules' own
 pub mod Width
 -- one outcome where a promise is an equation to a value
 pub mod Only

@@ -1,4 +1,4 @@
--- Degree bounds that are taken, and that what is asked of a width holds of the paper's own.
+-- Degree bounds that are taken, and that what is asked of a width holds of the rules' own (RULES 2 and 5).
 --     degree-range, degree-of     a degree bound that is taken lies between the two
 --     few-high         tuples at the largest degree bound, in steps that compute
 --     narrow-facts     `WidthFacts` of `specs/Widths.antt`, for `narrow`

@@ -1,5 +1,5 @@
--- A cluster is a set of taxa, kept as a number: bit b is taxon b (document 01, "The record"). Laws: `proofs/Digits.antt`,
--- `proofs/Cluster.antt`, `proofs/Taxa.antt`.
+-- A cluster is a set of taxa, kept as a number: bit b is taxon b (RULES 2). Laws: `proofs/Digits.antt`, `proofs/Cluster.antt`,
+-- `proofs/Taxa.antt`.
 --     inside a b      every taxon of a is one of b's; a cluster is inside itself
 --     strict a b      inside, and another cluster
 --     apart a b       no taxon is in both

@@ -1,4 +1,4 @@
--- One field of rows in an array (document 01, "The table"): ascending, and zero past them. Laws: `proofs/Column.antt`.
+-- One field of rows in an array (RULES 5): ascending, and zero past them. Laws: `proofs/Column.antt`.
 --     column z f es     what f has for the elements of es, the last of them first, and z from there up to the room of an array
 -- Assumes nothing.
 use mathlib.Core.List.{List, _++_, map, reverse}

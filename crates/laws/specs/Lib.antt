@@ -1,5 +1,5 @@
--- What the crates above build on: the paper's limits, the states of a record, rows, clusters as numbers, functions on lists, lists in
--- order and by places, and rows in arrays.
+-- What the crates above build on: the rules' limits, the states of a record, rows, clusters as numbers, functions on lists, lists in order
+-- and by places, and rows in arrays.
 pub mod Limits
 pub mod Widths
 pub mod State

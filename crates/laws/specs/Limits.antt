@@ -1,6 +1,6 @@
--- The paper's limits, each under one name, in one record for each width (document 01, "The record" and "The table").
+-- The rules' limits, each under one name, in one record for each width (RULES 2, 5 and 9).
 --     Width         the limits that a wider record moves
---     narrow        the limits of document 01: 32 taxa, 128 rows, records of 12 bytes
+--     narrow        the limits of the rules: 32 taxa, 128 rows, records of 12 bytes
 --     weightMax     the largest weight, either way: the same for every width
 --     isWithin n z  the integer z is no further than n from zero
 --     degreeLow, degreeHigh, isDegree d     the degree bounds that are taken

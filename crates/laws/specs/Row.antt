@@ -1,5 +1,4 @@
--- A cluster with its score, as numbers: what a record holds and a row of a table was listed with (document 01, "The record"). No width is
--- asked of it.
+-- A cluster with its score, as numbers: what a record holds and a row of a table was listed with (RULES 2). No width is asked of it.
 --     Row             cluster, weight, state
 --     isScored r      the row is scored
 -- Assumes nothing.

@@ -1,4 +1,4 @@
--- The states of a record or a row (document 01, "The record"): 1 is scored, 0 is unscored. Said here once: a further state is a line here.
+-- The states of a record or a row (RULES 2): 1 is scored, 0 is unscored. Said here once: a further state is a line here.
 --     unscored       the number of the state without a score
 --     scored s       the state s is that of a scored cluster
 --     isState s      s is a state

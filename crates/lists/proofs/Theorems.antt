@@ -1,6 +1,5 @@
--- What document 01 demands of lists, each under one name ("The record", "What is sent back", "Strict marking"), over any width. The degree
--- bound is the build's own.
---     accepts-iff                   a list is taken exactly when it is accepted, in the paper's words (`Accepted`)
+-- What the rules demand of lists, each under one name (RULES 2, 8 and 12), over any width. The degree bound is the build's own.
+--     accepts-iff                   a list is taken exactly when it is accepted, in the rules' words (`Accepted`)
 --     accepted-iff                  no reason for refusing it applies exactly then
 --     refuses-iff                   a refusal is sent back exactly when it is the first that applies
 --     empty-iff, long-iff, cut-iff, bad-iff, repeated-iff (Laws/Reasons.antt)     what each reason says in words

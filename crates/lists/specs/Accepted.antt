@@ -1,5 +1,5 @@
--- Which lists are taken, in the words of document 01 ("The record" and "What is sent back"), and lists that are written. Laws:
--- `proofs/Laws/Records.antt`, `proofs/Laws/Written.antt`; the theorems stand in `proofs/Theorems.antt`.
+-- Which lists are taken, in the words of the rules (RULES 2 and 8), and lists that are written. Laws: `proofs/Laws/Records.antt`,
+-- `proofs/Laws/Written.antt`; the theorems stand in `proofs/Theorems.antt`.
 --     Bytes l                 every element is a byte
 --     KeepsAt, Repeats W l i  record i keeps the record rules; it has the cluster of an earlier record
 --     FirstBad, FirstRepeat W l i     record i is the first that breaks them; that repeats an earlier one

@@ -1,5 +1,5 @@
--- Reading a list of records: why it is refused, and the rows that it holds (document 01, "The record" and "What is sent back"). The degree
--- bound is left aside. Laws: `proofs/Laws/Reasons.antt`, `proofs/Laws/Listing.antt`.
+-- Reading a list of records: why it is refused, and the rows that it holds (RULES 2 and 8). The degree bound is left aside. Laws:
+-- `proofs/Laws/Reasons.antt`, `proofs/Laws/Listing.antt`.
 --     recordReasons W l      why a list of whole records is refused: 5, then 6; 5 over all records before 6
 --     listReasons W l        why a list is refused: 1, 3, 2, 5, 6 in that order
 --     Listed, listed rs      rows in ascending order in arrays with room for 128, and how many; zero past them

@@ -1,4 +1,4 @@
--- The records of a list (document 01, "The record"). Laws: `proofs/Laws/Records.antt`.
+-- The records of a list (RULES 2). Laws: `proofs/Laws/Records.antt`.
 --     recordsIn W l          how many records
 --     bytesAt, listedAt W l i     the bytes of record i, and record i as a row
 --     rowsOf W l             the rows of a list, the largest cluster first

@@ -1,5 +1,4 @@
--- What is drawn of a table: the members of the leaf set's row, or why none are (document 01, "What is sent back" and "Drawing it"). Laws:
--- `proofs/Laws/Draw.antt`.
+-- What is drawn of a table: the members of the leaf set's row, or why none are (RULES 8 and 9). Laws: `proofs/Laws/Draw.antt`.
 --     leafRow t            the row of the leaf set: the number of rows where it has none
 --     hasTree t            the leaf set has a row, and its count isn't zero
 --     leafMarks t, markedRows t     the marks of that row, and the rows marked in it, the last first

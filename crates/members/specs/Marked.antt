@@ -1,5 +1,4 @@
--- The marked rows of a table, a row being its place (document 01, "The table" and number 8 of "What is sent back"). Laws:
--- `proofs/Laws/Marked.antt`.
+-- The marked rows of a table, a row being its place (RULES 5, and 8 of RULES 8). Laws: `proofs/Laws/Marked.antt`.
 --     markedTo m n         those of the first n rows that are marked in m, the last of them first
 --     membersTo cs m n     their clusters, ascending
 --     membersIn cs rows    the clusters of such rows in an array, ascending: zero past them

@@ -2,7 +2,7 @@
 // format of docs/PROBE.md. A fault in the stream is answered by one line, and nothing after it is looked at. What an operation does is
 // proved in its own crate; here is proved that the probe is safe and ends. The cases of `stdin`, in order:
 //     1, 2      a record read, and one written into a longer room
-//     3 to 9    one of each other operation, on the house list of document 01
+//     3 to 9    one of each other operation, on the house list (RULES 11)
 //     10        a case that the input cuts off
 mod drawings;
 mod layout;

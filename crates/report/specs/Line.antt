@@ -1,6 +1,6 @@
--- The printed line of a list and a degree bound (document 01, "Drawing it": the program `besttree`). Laws: `proofs/Laws/Line.antt`.
+-- The printed line of a list and a degree bound (RULES 10). Laws: `proofs/Laws/Line.antt`.
 --     lineFor d f line     the line of a refusal, if there is one; else the line given
---     tableLine d t        the line of a table: its first heaviest tree, or why none is drawn
+--     tableLine d t        the line of a table: the tree that its leaf set's row marks, or why none is drawn
 --     lineOf l d           the line of the list l and the degree bound d
 --     lineInto l d room    what asking for it gives
 --     lineCap              no line is longer

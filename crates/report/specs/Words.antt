@@ -1,4 +1,4 @@
--- The words of a printed line, in bytes (document 01, "Drawing it": the program `besttree`). Laws: `proofs/Laws/Words.antt`.
+-- The words of a printed line, in bytes (RULES 10). Laws: `proofs/Laws/Words.antt`.
 --     signed z                  a weight in decimal, with a minus sign where it is negative
 --     countWord c m             a count in decimal, or `many` where its mark is 1
 --     placeWord n p             ` at P` for 5 and 6, else nothing

@@ -1,5 +1,5 @@
--- The texts that document 01 prints ("Bench examples"), each from the members of its tree: one computed table. It pins the bytes, which no
--- law speaks of.
+-- The texts that the rules print (RULES 11), each from the members of its tree: one computed table. It pins the bytes, which no law speaks
+-- of.
 --     Case             a tree's members and top, and its text
 --     cases            P1, P3, P5, P6, P8, and taxa of two figures
 --     cases-hold       each text is that of its tree

@@ -23,5 +23,5 @@ pub mod TextLength
 pub mod Theorems
 -- a list of clusters backward
 pub mod Backward
--- the texts of the paper's own examples
+-- the texts of the rules' own examples
 pub mod Cases

@@ -1,4 +1,4 @@
--- Bytes in plain characters, so that texts can be held against the paper's own.
+-- Bytes in plain characters, so that texts can be held against those of the rules (RULES 9 to 11).
 --     characters s     the bytes of a text
 -- Assumes nothing.
 use mathlib.Core.List.{List, [], _∷_}

@@ -1,4 +1,4 @@
--- Numbers in decimal (document 01, "Drawing it": "taxon numbers in decimal"). Laws: `proofs/Decimal.antt`.
+-- Numbers in decimal (RULES 9 and 10). Laws: `proofs/Decimal.antt`.
 --     figure d       the byte of a figure, 0 to 9
 --     decimal n      the figures of n, the most significant first, with no leading zero
 -- Assumes nothing.

@@ -1,5 +1,4 @@
--- How a set of clusters is drawn (document 01, "Drawing it": "The cluster list goes out ascending"; "children in order of their smallest
--- taxon"). Laws: `proofs/Sorted.antt`, `proofs/Drawn.antt`, `proofs/Parts.antt`.
+-- How a set of clusters is drawn (RULES 9). Laws: `proofs/Sorted.antt`, `proofs/Drawn.antt`, `proofs/Parts.antt`.
 --     ascending xs           a set of clusters in ascending order of number
 --     childrenInOrder xs C   the children of C in order of their smallest taxon
 --     shapesBy f cs          the shapes f c of some clusters

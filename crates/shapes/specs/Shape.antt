@@ -1,5 +1,5 @@
--- Shapes: a vertex is a taxon or a list of at least two vertices (document 01, "What a tree is": "there are always at least two" children;
--- "Drawing it": "children in order of their smallest taxon"). Laws: `proofs/Shape.antt`, `proofs/Only.antt`.
+-- Shapes: a vertex is a taxon or a list of at least two vertices (RULES 3), its children in order of their smallest taxon (RULES 9). Laws:
+-- `proofs/Shape.antt`, `proofs/Only.antt`.
 --     Shape, Shapes      a vertex is a taxon or has vertices for children; that they are two or more is asked by `isOrdered`
 --     topOf s, topsOf ss the cluster of a vertex: of a taxon itself, else the union of its children's; and those of a list
 --     verticesOf s, verticesIn ss     the clusters of all its vertices; and those of a list

@@ -1,5 +1,4 @@
--- The Newick text of a shape (document 01, "Drawing it": "The Newick text has taxon numbers in decimal, children in order of their
--- smallest taxon, commas between, parentheses round, ";" at the end, no spaces"). Laws: `proofs/Print.antt`, `proofs/TextLength.antt`.
+-- The Newick text of a shape (RULES 9). Laws: `proofs/Print.antt`, `proofs/TextLength.antt`.
 --     opening, closing, comma, semicolon     bytes
 --     afterCommas, withCommas     texts one after another, each after a comma; with commas between
 --     print s, printEach ss       the bytes of a vertex: a taxon in decimal, else the children with commas between and parentheses round

@@ -7,7 +7,7 @@ pub mod Stored
 pub mod Working
 -- what the search may count on, and a row over what it finds
 pub mod Ready
--- the row that the code works out is the paper's
+-- the row that the code works out is that of the rules
 pub mod WorkedRow
 -- the rows of a table that may be worked out, and those that are
 pub mod Workable

@@ -1,5 +1,5 @@
--- What document 01 demands of tables, each under one name, over any width. Demand 2, what a row of a built table holds, stands in the
--- definition of a build (`specs/Build.antt`) and in the crate `trees` (`proofs/Theorems.antt`). Which lists are taken, in the paper's
+-- What the rules demand of tables (RULES 12), each under one name, over any width. Demand 2, what a row of a built table holds, stands in
+-- the definition of a build (`specs/Build.antt`) and in the crate `trees` (`proofs/Theorems.antt`). Which lists are taken, in the rules'
 -- words, and that the rows of a list are its records: the crate `lists` (`proofs/Theorems.antt`).
 --   demand 1, which lists are taken
 --     build-accepts-iff                              a build succeeds exactly for the accepted lists and the degree bounds 3 to 5

@@ -1,4 +1,4 @@
--- Building a table (document 01, "The table" and "What is sent back"): stated by what a tree is. Laws: `proofs/Laws/Build.antt`.
+-- Building a table (RULES 5 and 8): stated by what a tree is. Laws: `proofs/Laws/Build.antt`.
 --     buildReasons W l d     why a build is refused: 4 first, then the list's own reasons
 --     buildTable W l d       what building the list l with the degree bound d gives; refused, the table is all zero
 -- Assumes nothing.

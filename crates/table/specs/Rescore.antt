@@ -1,5 +1,5 @@
--- Rescoring one row of a kept table (document 01, "The table" and "What is sent back"): stated by the paper's formulas, for every fit
--- table, whether or not a build made it. Laws: `proofs/Changing/Rescore.antt`.
+-- Rescoring one row of a kept table (RULES 7 and 8): stated by the rules' formulas, for every fit table, whether or not a build made it.
+-- Laws: `proofs/Changing/Rescore.antt`.
 --     rescoreReasons W t c z s     why it is refused: 8 (fitness only), 9, 10 in that order
 --     newTable W t c z s           the table with the new score, each row that contains it worked out again
 --     rescoreTable W t c z s       what rescoring gives; refused, the table is as it was given, whatever it holds

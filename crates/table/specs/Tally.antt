@@ -1,5 +1,5 @@
--- Tallies: what the search of tuples adds up, as the code holds it. A tally encodes a number of tuples with, where one of them leads to
--- trees, a true count and the key of the first heaviest: the count stopped at the limit, the set as two words. Sums of them: `Sums.antt`.
+-- Tallies: what the search of tuples adds up, as the code holds it. A tally encodes a number of tuples with, where one of them has no zero
+-- count, a true count and the first of the keys: the count stopped at the limit, the set as two words. Sums of them: `Sums.antt`.
 --     tallyOf limit x       the tally of a result
 --     decoded v             the count and key that a row's fields stand for
 --     fieldsTally v         the fields of a row as a tally

@@ -1,7 +1,7 @@
 -- What the private functions that work rows out cite: one row over the columns beneath it, and every row that contains a cluster.
---     workedTally W k z i d     row i of the columns, with the weight z, from the rows beneath, as the code has it; that it is the paper's
+--     workedTally W k z i d     row i of the columns, with the weight z, from the rows beneath, as the code has it; that it is the rules'
 --                               row: `proofs/Rows/WorkedRow.antt`
---     againTable W t c          the table with every row that contains c worked out again, by the paper's formulas
+--     againTable W t c          the table with every row that contains c worked out again, by the rules' formulas
 --     Ready, Workable           what each may count on
 -- Assumes nothing.
 use mathlib.Core.Bool.{cond}

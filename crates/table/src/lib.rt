@@ -4,7 +4,7 @@
 //     Rescored, rescore         one row with a new weight and state, and every row that contains it worked out again
 // Passed on from the crate `kept`:
 //     Table, zero_table         one value with room for 128 rows, and the one that is all zero
-//     is_fit                    every sentence of document 01's "fit", as one test
+//     is_fit                    every sentence of what a fit table is (RULES 6), as one test
 //     place_of, leaf_set        where a cluster's row stands, and the union of all clusters
 mod making;
 mod rescoring;

@@ -1,4 +1,4 @@
--- THE TABLE IS THE TREES: each row worked out by the paper's formulas, from the rows beneath it, is the row defined by trees.
+-- THE TABLE IS THE TREES: each row worked out by the rules' formulas, from the rows beneath it, is the row defined by trees.
 --     workedTable W d rs      every row worked out from the rows beneath, from nothing
 --     trueTable d cs rs       the same in true counts and keys
 --     all-counted             its counts are one or more, where there is a tree

@@ -1,10 +1,10 @@
 -- Rescoring: a new weight and state in one row of a built table, and the rows that contain it worked out again, is the build of the changed
--- rows. Proved for any row formula that looks only at the rows inside a row's cluster, and the paper's formula is one.
+-- rows. Proved for any row formula that looks only at the rows inside a row's cluster, and the rules' formula is one.
 --     under C e             the entry lies inside C
 --     Local F               the row formula F depends on the entries inside the row's cluster alone
---     tuples-local, worked-local     the tuples, and the paper's formula, are local
+--     tuples-local, worked-local     the tuples, and the rules' formula, are local
 --     put-cluster, put-clusters, put-other         what a new score leaves alone
---     again-is-table, rescore-is-table     the theorem, for any local formula and for the paper's
+--     again-is-table, rescore-is-table     the theorem, for any local formula and for that of the rules
 --     others F c t          the rows of t that don't contain c
 --     again-clusters, rescored-clusters, rescore-other     in any table clusters stay, and so does every row without the rescored cluster
 -- Assumes nothing.

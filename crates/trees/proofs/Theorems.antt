@@ -1,4 +1,4 @@
--- What document 01 demands of trees and tables, each under one name, for every degree bound, width and limit.
+-- What the rules demand of trees and tables (RULES 12), each under one name, for every degree bound, width and limit.
 --     worked-is-built (Built.antt)      demand 2: the row worked out from tuples is the row defined by trees
 --     none-iff, count-iff               "no tree" exactly where there is none, and count zero exactly then
 --     best-is-tree, best-first, best-only     the best is a tree, comes before every other, and is the only one that does

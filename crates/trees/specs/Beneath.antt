@@ -1,5 +1,5 @@
--- What the rows beneath a row give to it: its tuples, their counts and their keys (document 01, "The table", the paragraph on rescoring).
--- These are the paper's formulas: they fix an answer for every table, whether or not its fields came from trees.
+-- What the rows beneath a row give to it: its tuples, their counts and their keys (RULES 7). These are the rules' formulas: they fix an
+-- answer for every table, whether or not its fields came from trees.
 --     Beneath                  a row beneath, with its fields
 --     counted t, summed r t    the rows beneath that may stand in a tuple: in the row length, and in count and best
 --     timesCounts, sumCounts   the product of a tuple's counts, and the sum over tuples

@@ -1,4 +1,4 @@
--- A built row, by what a tree is and not by how it is worked out (document 01, "The table").
+-- A built row, by what a tree is and not by how it is worked out (RULES 5).
 --     rowLength d rs r       the number of tuples of listed scored clusters; 0 for one taxon or unscored
 --     withBest               the fields from row length, count, mark and the first heaviest tree
 --     treeResult W rs n ts   the fields of a row of length n whose cluster has the trees ts

@@ -1,4 +1,4 @@
--- The weight of a tree, the tie rule, and the first heaviest of several (document 01, "What a tree is").
+-- The weight of a tree, the tie rule, and the first heaviest of several (RULES 4).
 --     weightIn rs p         the sum of the weights of the rows whose cluster passes the test p
 --     weightOf rs xs        the sum of the weights of the rows whose cluster is in xs, each once
 --     inOne xs ys           the clusters that are in exactly one of the two

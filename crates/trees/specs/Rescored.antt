@@ -1,4 +1,4 @@
--- A row worked out from the rows beneath as they stand, and rescoring (document 01, "The table", the paragraph on rescoring).
+-- A row worked out from the rows beneath as they stand, and rescoring (RULES 7).
 --     ownMark cs r             the mark of the row's own cluster
 --     joined, alone, together  the fields of a row of two or more taxa, by its tuples; of a single taxon; the first, from the rows beneath
 --     workedOut W d cs r t     the fields of row r over the rows beneath t; cs are the clusters of the whole table, the largest first

@@ -1,4 +1,4 @@
--- What a row of the table holds beside cluster, weight and state (document 01, "The table").
+-- What a row of the table holds beside cluster, weight and state (RULES 5).
 --     Result              row length, count, mark, best weight and member marks
 --     blank               all zero
 --     countField, markField     a true count as the two fields: the limit and 1 exactly where it is larger than the limit

@@ -1,4 +1,4 @@
--- Rows of a list or a table (document 01, "The record" and "The table"). Wherever rows are a list, the largest cluster stands first.
+-- Rows of a list or a table (RULES 2 and 5). Wherever rows are a list, the largest cluster stands first.
 --     clustersOf rs   the clusters of rows
 --     scoredIn rs     the clusters of the scored rows
 --     RowFacts w rs   what holds of the rows of any accepted list of w taxa: they fall, and none is empty or past the width

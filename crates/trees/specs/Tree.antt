@@ -1,4 +1,4 @@
--- What a tree is (document 01, "What a tree is"). A set of clusters is a list of them; nothing here speaks of tuples.
+-- What a tree is (RULES 3). A set of clusters is a list of them; nothing here speaks of tuples.
 --     children xs m       the largest members strictly inside m, by inclusion
 --     isTree w d C xs     the set xs is a tree on C, for w taxa and the degree bound d
 --     treesOn w d L C     the trees on C among the sets of the clusters L

@@ -1,4 +1,5 @@
--- Tuples (document 01, "The table": row length; document 000, formula 18): unordered, so each is listed once, as a sublist.
+-- Tuples (RULES 5; formula 18 of Bryant and Steel, "Constructing Optimal Trees from Quartets"): unordered, so each is listed once, as a
+-- sublist.
 --     allApart cs        pairwise disjoint
 --     isTuple d C cs     2 to d - 1 pairwise disjoint clusters whose union is C
 --     tuples d C es      the tuples of entries whose clusters are a tuple of C

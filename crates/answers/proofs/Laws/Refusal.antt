@@ -1,6 +1,6 @@
 -- What is sent back fixes the answer: the number and the position tell which refusal it was.
---     answers n p      a success that tells n, then every refusal in the paper's order, with p where it has a position
---     sent-table       the paper's number, position and what is told for each: an edit of the definitions is refused here
+--     answers n p      a success that tells n, then every refusal in the rules' order, with p where it has a position
+--     sent-table       the rules' number, position and what is told for each: an edit of the definitions is refused here
 --     sentOf-inj       equal things sent, equal answers
 --     number-pos, number-le     no refusal has the number 0, which says that there is none, and none more than 11
 -- Assumes nothing.

@@ -1,4 +1,4 @@
--- Rescoring any table (document 01, "The table" and "What is sent back").
+-- Rescoring any table (RULES 7 and 8).
 --     rescore-accepts-iff                   a rescoring succeeds exactly for a fit table, a cluster with a row and a score
 --     rescore-refuses-iff                   and gives a refusal exactly when it is the first that applies
 --     rescore-refused                       else the table is as it was given

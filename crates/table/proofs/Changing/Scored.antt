@@ -1,7 +1,7 @@
 -- A new weight and state stored in the row of a cluster: the table that `rescore` has worked out again (`src/rescoring.rt`).
 --     row-missing, row-listed, row-found     what the code's look-up tells
 --     withScore t i z s       the table t with the weight z and the state s in row i
---     score-entries           its rows are those of the paper's `putScore`
+--     score-entries           its rows are those of `putScore` (RULES 7)
 --     score-workable          its rows may be worked out again
 --     score-done              and the table so worked out is the rescored one
 -- Assumes nothing.

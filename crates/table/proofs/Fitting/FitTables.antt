@@ -1,4 +1,4 @@
--- Which tables are fit: a built table, and a fit table rescored (document 01, "The table").
+-- Which tables are fit: a built table, and a fit table rescored (RULES 6).
 --     InTable W d es P       es may be the rows of a table with the degree bound d, and P holds of each
 --     carried                so may rows with the same clusters
 --     table-fit              the table of fit rows is fit

@@ -1,7 +1,7 @@
 -- A row worked out from fit rows is fit, and so is every row of a table whose rows that contain a cluster are worked out again.
 --     decode t                 the count and key that each row stands for
 --     Over limit cs r t        the rows t beneath r may be added up
---     worked-is                the paper's row is the encoding of the true row over what the rows beneath stand for
+--     worked-is                the rules' row is the encoding of the true row over what the rows beneath stand for
 --     found-keeps              what it sums over its tuples is in bounds
 --     worked-rooted            and so is what it encodes, the row itself being a member
 --     worked-fit               so the row is fit

@@ -2,7 +2,7 @@
 --     Partly W given c t i    the first i rows of t are the given ones, worked out again; the others are as given
 --     ready-row               what working out row i may count on
 --     weight-at               the weight of row i is a number of 32 bits
---     same-row, row-again     the row is the given one, and the code's result for it is the paper's, over the rows as they stand
+--     same-row, row-again     the row is the given one, and the code's result for it is that of the rules, over the rows as they stand
 -- Assumes nothing.
 use mathlib.Core.Path.{_≡_, sym, ap, ap₂, _∙_, subst}
 use mathlib.Core.Logic.{_≢_}
@@ -125,7 +125,7 @@ module _ {W : Width} (facts : WidthFacts W) {given : Table} {c : ℕ} (w : Worka
     pub same-row : rowAt t i ≡ rowAt given i
     same-row = ap (λ (e : Entry Result). e .row) (p .left i (omega arith))
 
-    -- the code's row is the paper's, over the rows as they stand
+    -- the code's row is that of the rules, over the rows as they stand
     pub row-again : (starts : List ℕ) → i < given .rows → Starts (given .clusters) (given .rows) starts
         → workedTally W (columnsOf t) (getD (t .weights) i (pos 0)) i (given .degree)
         ≡ fieldsTally (F (rowAt given i) (again F c (entriesOf given i)))

@@ -1,4 +1,4 @@
--- The row that the code works out (`workedTally` of `specs/Working.antt`) is the paper's row over the rows beneath.
+-- The row that the code works out (`workedTally` of `specs/Working.antt`) is the rules' row over the rows beneath.
 --     part e                the row e as the search reads it: its weight and its row length play no part
 --     parts-are             the parts that the columns of a table show are its rows as parts
 --     covers-are            what the search finds: the number of the row's tuples, and the sum of the products over them

@@ -1,4 +1,4 @@
--- Counts stopped at a limit: the paper's formulas, on rows whose count fields are stopped, give the fields of the true counts.
+-- Counts stopped at a limit: the rules' formulas, on rows whose count fields are stopped, give the fields of the true counts.
 --     encodeSol, encode        the fields that hold them
 --     trueCount, Counted       the true count, and that it is one or more where there is a tree
 --     second                   an entry without its row length
@@ -7,7 +7,7 @@
 --     count-hom                counting respects sums and products
 --     fieldsE, fieldsT         an entry and several, with their fields
 --     trueTimes, trueSum       the product of a tuple's true counts, and the sum over tuples
---     many-is                  the paper's test of "many" is that the true count is past the limit
+--     many-is                  the rules' test of "many" is that the true count is past the limit
 -- Assumes nothing.
 use mathlib.Core.Path.{_≡_, refl, sym, ap, ap₂, _∙_, subst}
 use mathlib.Core.Logic.{_⊎_, inl, inr}
@@ -212,7 +212,7 @@ module _ (limit : ℕ) (pos-limit : 1 ≤ limit) where
       go (large a b p) k = many (ap₂ marked a b) (omega (arith, p))
 
   module _ (τs : List (List (Entry Res))) where
-    -- what the paper's two fields say of the true count
+    -- what the rules' two fields say of the true count
     abbrev Fields : Bool → ℕ → Type 0
     Fields b s = (cond b limit s ≡ countField limit (trueSum τs)) × (cond b 1 0 ≡ markField limit (trueSum τs))
 

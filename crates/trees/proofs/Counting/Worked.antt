@@ -1,9 +1,9 @@
--- The row worked out by the paper's formulas from the fields beneath is the fields of the row worked out in true counts and keys.
+-- The row worked out by the rules' formulas from the fields beneath is the fields of the row worked out in true counts and keys.
 --     markIn                  the mark of one cluster (passed on from `Ties/Marks.antt`)
 --     lengthIf b n            n, or 0 where a row has no tuples
 --     trueResult d cs r t     the row length, and the count with the key of the first heaviest, in true counts
 --     AllCounted t            each true count of t is one or more, where there is a tree
---     key-is                  the paper's choice among tuples is the first key
+--     key-is                  the rules' choice among tuples is the first key
 --     worked-encode           the theorem
 --     counted-plus, counted-times, counted-value     sums, products and rows keep that
 -- Assumes nothing.
