@@ -1,6 +1,5 @@
 -- What is true of records and their operations (RULES 2, 8 and 12).
 --     read-only             one outcome of `read_record`: the answer and the record
---     write-only            one outcome of `write_record`: the answer and every byte of the room
 --     kept-iff, score-iff   no rule is broken exactly where the rules' sentences hold (`Keeps`, `KeepsScore` of `specs/Rule.antt`)
 --     read-accepts-iff      twelve bytes are accepted exactly when no rule is broken
 --     write-accepts-iff     and a record, where the room is long enough too
@@ -43,10 +42,6 @@ pub read-only : (l : List ℕ) (x y : Reading) → readingOf x ≡ readRecord l 
 read-only l x y p q =
     let e = outcome-only (x .answer) (y .answer) (x .«record») (y .«record») p q in
     ap₂ (λ (a : Answer) (r : Record). record { answer = a; «record» = r }) (e .0) (e .1)
-
-pub write-only : (r : Record) (room : List ℕ) (a b : Answer) (l m : List ℕ)
-    → outcomeOf a l ≡ writeRecord r room → outcomeOf b m ≡ writeRecord r room → (a ≡ b) × (l ≡ m)
-write-only r room a b l m p q = outcome-only a b l m p q
 
 -- ---- accepted exactly when no rule is broken
 

@@ -46,7 +46,7 @@ use Rattle.demands.specs.Refusals.{reading, writing, listing, building, 
 use Rattle.demands.specs.Demands.{Demand1}
 use Rattle.demands.proofs.Answered.{says-none, says-room, refusal-is, answered, answered-room, answered-given}
 use Rattle.demands.proofs.Reasons.{says-reading, reading-none, says-writing, writing-none, says-listing, says-building}
-use Rattle.demands.proofs.Reasons.{building-none, row-iff, says-rescoring, rescoring-none, says-drawing, drawing-none}
+use Rattle.demands.proofs.Reasons.{building-none, fit-iff, row-iff, says-rescoring, rescoring-none, says-drawing, drawing-none}
 
 -- ---- records
 
@@ -108,7 +108,8 @@ rescore-answered : (t : Table) (c : ℕ) (z : ℤ) (s : ℕ)
     → Answered (rescoreTable narrow t c z s) (rescoring narrow t c z s) (Fit narrow t × HasRow t c × KeepsScore z s) t
 unfolding rescoreTable
 rescore-answered t c z s =
-    answered (rescoreReasons narrow t c z s) t 0 (newTable narrow t c z s) (says-rescoring t c narrow z s) (rescoring-none t c narrow z s)
+    answered (rescoreReasons narrow t c z s) t 0 (newTable narrow t c z s) (says-rescoring t c narrow narrow-facts z s)
+    (rescoring-none t c narrow narrow-facts z s)
 
 module _ (t : Table) where
   drawn-tree-answered : Answered (drawnTree narrow t) (drawing narrow t nothing) (Drawable narrow t) noMembers
@@ -172,6 +173,7 @@ demand1 = record {
   write-record = write-answered;
   read-list = list-answered;
   build = build-answered;
+  is-fit = fit-iff narrow narrow-facts;
   place-of = λ t c capped. place-iff t capped c;
   place-at = λ t c capped. placeOf-at t capped c;
   leaf-set = λ t x capped. taxon-iff t capped x;

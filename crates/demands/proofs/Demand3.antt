@@ -7,15 +7,13 @@ use mathlib.Core.Path.{_≡_, refl, sym, ap, _∙_, subst}
 use mathlib.Core.Logic.{_↔_}
 use mathlib.Core.Option.{Option, none, some}
 use mathlib.Core.List.{List}
-use Prim.Native.Nat.{ℕ, _+_, _*_, _≤_, _<_}
+use Prim.Native.Nat.{ℕ, _≤_, _<_}
 use native.Mathlib.Omega.{arith}
 use lib.Dec.{T}
-use lib.IntN.{ℤ, pos}
-use lib.ListN.{length, length-map}
-use Rattle.laws.specs.Limits.{Width, narrow, isDegree, rowCap, wordValues}
+use lib.IntN.{ℤ}
+use Rattle.laws.specs.Limits.{Width, narrow, isDegree, rowCap}
 use Rattle.laws.specs.Row.{Row}
 use Rattle.laws.specs.Widths.{WidthFacts}
-use Rattle.laws.proofs.Down.{down-length}
 use Rattle.laws.proofs.Tests.{T-false, T-of-not}
 use Rattle.laws.proofs.Width.{narrow-facts, degree-of}
 use Rattle.answers.specs.declared.refusal.Refusal.{Refusal}
@@ -25,14 +23,12 @@ use Rattle.answers.proofs.Laws.Reasons.{none-iff}
 use Rattle.cluster.specs.Rule.{KeepsScore}
 use Rattle.cluster.proofs.Theorems.{score-iff}
 use Rattle.lists.specs.Accepted.{HasCluster}
-use Rattle.trees.specs.Rows.{Entry, cl}
-use Rattle.trees.specs.Result.{Result, blank}
+use Rattle.trees.specs.Beneath.{Beneath}
 use Rattle.trees.specs.Rescored.{rescored}
-use Rattle.trees.proofs.Rescore.{rescored-clusters}
 use Rattle.kept.specs.declared.table.Table.{Table}
 use Rattle.kept.specs.View.{entryAt, entriesOf, clustersIn}
 use Rattle.kept.specs.Fit.{isFit}
-use Rattle.kept.proofs.Laws.Blank.{Blank, empty→blank}
+use Rattle.kept.proofs.Laws.Blank.{empty→blank, blank-entry}
 use Rattle.kept.proofs.Laws.Fit.{isFit→}
 use Rattle.kept.proofs.Laws.View.{table-past}
 use Rattle.table.specs.Build.{buildTable}
@@ -44,20 +40,7 @@ use Rattle.table.proofs.Changing.RescoredTables.{rescore-keeps-others}
 use Rattle.table.proofs.Theorems.{built-rescores-iff, rescore-all-is-build}
 use Rattle.demands.specs.Demands.{Demand3}
 use Rattle.demands.specs.Refusals.{Degree}
-
--- a row that is all zero
-blank-entry : (t : Table) (i : ℕ) → Blank t i
-    → entryAt t i ≡ record { row = record { cluster = 0; weight = pos 0; state = 0 }; val = blank }
-blank-entry t i b = λ k. record {
-  row = record { cluster = b .cluster k; weight = b .weight k; state = b .state k };
-  val = record {
-    length = b .length k;
-    count = b .count k;
-    mark = b .mark k;
-    best = b .best k;
-    members = b .low k + wordValues * b .high k;
-  };
-}
+use Rattle.demands.proofs.Worked.Standing.{new-count}
 
 -- ---- what any rescoring leaves alone
 
@@ -75,19 +58,12 @@ module _ (W : Width) (t : Table) (c : ℕ) (z : ℤ) (s : ℕ) where
       go none e =
           subst P (given-is e) (new (T-of-not (isFit W t) (none-iff (rescoreReasons W t c z s) .0 e .0)))
 
-  abbrev changed : List (Entry Result)
+  abbrev changed : List Beneath
   changed = rescored W (t .degree) (clustersIn t) c z s (entriesOf t (t .rows))
-
-  new-rows : newTable W t c z s .rows ≡ t .rows
-  new-rows =
-      sym (length-map changed cl)
-      ∙ ap (λ (cs : List ℕ). length cs) (rescored-clusters W (t .degree) (clustersIn t) c z s (entriesOf t (t .rows)))
-      ∙ length-map (entriesOf t (t .rows)) cl
-      ∙ down-length (entryAt t) (t .rows)
 
   new-past : WidthFacts W → (i : ℕ) → t .rows ≤ i → i < rowCap → T (isFit W t) → entryAt (newTable W t c z s) i ≡ entryAt t i
   new-past facts i h m fit =
-      blank-entry (newTable W t c z s) i (table-past (t .degree) changed i (omega (arith, new-rows)))
+      blank-entry (newTable W t c z s) i (table-past (t .degree) changed i (omega (arith, new-count W t c z s)))
       ∙ sym (blank-entry t i (empty→blank t i (isFit→ W facts t fit .blank i h m)))
 
 -- ---- the demand
@@ -115,6 +91,6 @@ demand3 = record {
   taken = λ l d xs c z s a q. takes narrow-facts d (degree-in d q) xs a c z s;
   others = λ t c z s i h n. rescore-keeps-others narrow t c z s i h (T-false _ n);
   degree = λ t c z s. handed-back narrow t c z s (λ u. u .degree ≡ t .degree) refl (λ _. refl);
-  rows = λ t c z s. handed-back narrow t c z s (λ u. u .rows ≡ t .rows) refl (λ _. new-rows narrow t c z s);
+  rows = λ t c z s. handed-back narrow t c z s (λ u. u .rows ≡ t .rows) refl (λ _. new-count narrow t c z s);
   past = λ t c z s i h m. handed-back narrow t c z s (λ u. entryAt u i ≡ entryAt t i) refl (new-past narrow t c z s narrow-facts i h m);
 }

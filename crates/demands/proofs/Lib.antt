@@ -5,14 +5,14 @@ mod Answered
 mod Reasons
 -- every input has its answer
 pub mod Demand1
+-- a row that is worked out from the rows of its table, in words
+mod Worked
 -- a rescored table is the fresh build
 pub mod Demand3
 -- what the rows of a built table tell, what is drawn of it, and its printed line
 mod Drawn
 -- the trees of a list are counted, and the first heaviest is drawn
 pub mod Demand2
--- a row that is worked out from the rows of its table, in words
-mod Worked
 -- rescoring tables that no build made
 pub mod Reworks
 -- of each public operation, two outcomes that its promise allows are equal

@@ -2,7 +2,7 @@
 --     says-reading, reading-none     one record
 --     says-writing, writing-none     one record into a room
 --     says-listing, says-building, building-none     a list
---     row-iff     a cluster has a row
+--     fit-iff, row-iff     a table is fit; a cluster has a row
 --     says-rescoring, rescoring-none     a rescoring
 --     says-drawing, drawing-none     what is drawn of a table
 -- Assumes nothing.
@@ -45,7 +45,7 @@ use Rattle.kept.specs.View.{rowAt}
 use Rattle.kept.specs.Fit.{isFit}
 use Rattle.kept.specs.Rows.{shownRows, leafSet, hasRow}
 use Rattle.kept.proofs.Laws.Clusters.{clusters-are, Ascends}
-use Rattle.kept.proofs.Laws.Fit.{FitTable, isFit→}
+use Rattle.kept.proofs.Laws.Fit.{isFit→, →isFit}
 use Rattle.kept.proofs.Laws.Rows.{placeOf-at, hasRow-is}
 use Rattle.members.specs.Marked.{isSame, weightTo}
 use Rattle.members.specs.Draw.{leafRow, hasTree, leafMarks, markedRows, membersOf, areScored, weighsBest, isDrawable, drawReasons}
@@ -116,6 +116,9 @@ module _ (W : Width) (l : List ℕ) where
 
 -- ---- rows of a table
 
+pub fit-iff : (W : Width) → WidthFacts W → (t : Table) → T (isFit W t) ↔ Fit W t
+fit-iff W facts t = (isFit→ W facts t, →isFit W t)
+
 module _ (t : Table) (c : ℕ) where
   pub row-iff : T (hasRow t c) ↔ HasRow t c
   row-iff =
@@ -124,20 +127,19 @@ module _ (t : Table) (c : ℕ) where
         λ q. subst (λ (cs : List ℕ). T (elem c cs)) (sym (clusters-are t (t .rows))) (one-of .1 (q .0, q .1, sym (q .2))),
       )
 
-  module _ (W : Width) (z : ℤ) (s : ℕ) where
+  module _ (W : Width) (facts : WidthFacts W) (z : ℤ) (s : ℕ) where
     pub says-rescoring : Says (rescoreReasons W t c z s) (rescoring W t c z s)
     says-rescoring =
-        says-unless (isFit W t) (λ h. h, λ h. h) Unfit refl
+        says-unless (isFit W t) (fit-iff W facts t) Unfit refl
         (λ _. says-unless (hasRow t c) row-iff NoRow refl
         (λ _. says-unless (isScore z s) (score-iff z s) BadScore refl (λ _. says-none)))
 
     pub rescoring-none : NoneApplies (rescoreReasons W t c z s) ↔ (Fit W t × HasRow t c × KeepsScore z s)
     rescoring-none =
+        let fit = passes-iff (isFit W t) (fit-iff W facts t) in
         let row = passes-iff (hasRow t c) row-iff in
-        let score = passes-iff (isScore z s) (score-iff z s) in (
-          λ k. (T-of-not (isFit W t) (k .0), row .0 (k .1 .0), score .0 (k .1 .1 .0)),
-          λ h. (λ n. T-not (isFit W t) n (h .0), (row .1 (h .1), (score .1 (h .2), tt))),
-        )
+        let score = passes-iff (isScore z s) (score-iff z s) in
+        (λ k. (fit .0 (k .0), row .0 (k .1 .0), score .0 (k .1 .1 .0)), λ h. (fit .1 (h .0), (row .1 (h .1), (score .1 (h .2), tt))))
 
 -- ---- what is drawn of a table
 
@@ -154,11 +156,8 @@ module _ (W : Width) (facts : WidthFacts W) (t : Table) where
   tree-iff : Fit W t → T (hasTree t) ↔ HasTree t
   tree-iff fit = (to, from)
     where
-      fits : FitTable W t
-      fits = isFit→ W facts t fit
-
       capped : t .rows ≤ rowCap
-      capped = le-trans (fits .bounds .capped) (facts .rows)
+      capped = le-trans (fit .bounds .capped) (facts .rows)
 
       at-leaf : leafRow t < t .rows → getD (t .clusters) (leafRow t) 0 ≡ leafSet t
       at-leaf = placeOf-at t capped (leafSet t)
@@ -170,7 +169,7 @@ module _ (W : Width) (facts : WidthFacts W) (t : Table) where
       from q =
           let found = row-iff t (leafSet t) .1 (q .0, q .1, q .2) in
           let here = ltb→lt (leafRow t) (t .rows) (subst T (hasRow-is t capped (leafSet t)) found) in
-          let one = rises-once (t .clusters) (t .rows) (q .0) (leafRow t) (fits .rising) (q .1) here (q .2 ∙ sym (at-leaf here)) in
+          let one = rises-once (t .clusters) (t .rows) (q .0) (leafRow t) (fit .rising) (q .1) here (q .2 ∙ sym (at-leaf here)) in
           true-T (hasTree-count t (q .0) one (q .1) (q .3))
 
   marks-iff : T (isDrawable W t) ↔ MarksTree W t
@@ -194,7 +193,7 @@ module _ (W : Width) (facts : WidthFacts W) (t : Table) where
 
   pub says-drawing : {rs : List Reason} {rest : Sending} → Says rs rest → Says (drawReasons W t ++ rs) (drawing W t rest)
   says-drawing says =
-      says-unless (isFit W t) (λ h. h, λ h. h) Unfit refl
+      says-unless (isFit W t) (fit-iff W facts t) Unfit refl
       (λ fit. says-unless (hasTree t) (tree-iff fit) NoTree refl
       (λ _. says-unless (isDrawable W t) marks-iff Unfit refl (λ _. says)))
 
@@ -203,7 +202,7 @@ module _ (W : Width) (facts : WidthFacts W) (t : Table) where
     where
       to : NoneApplies (drawReasons W t) → Drawable W t
       to k =
-          let fit = T-of-not (isFit W t) (k .0) in record {
+          let fit = passes-iff (isFit W t) (fit-iff W facts t) .0 (k .0) in record {
             fit = fit;
             counted = passes-iff (hasTree t) (tree-iff fit) .0 (k .1 .0);
             marked = passes-iff (isDrawable W t) marks-iff .0 (k .1 .1 .0);
@@ -211,6 +210,6 @@ module _ (W : Width) (facts : WidthFacts W) (t : Table) where
 
       from : Drawable W t → NoneApplies (drawReasons W t)
       from h = (
-        λ n. T-not (isFit W t) n (h .fit),
+        passes-iff (isFit W t) (fit-iff W facts t) .1 (h .fit),
         (passes-iff (hasTree t) (tree-iff (h .fit)) .1 (h .counted), (passes-iff (isDrawable W t) marks-iff .1 (h .marked), tt)),
       )

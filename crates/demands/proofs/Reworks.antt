@@ -19,6 +19,7 @@ use Rattle.kept.specs.declared.table.Table.{Table}
 use Rattle.kept.specs.View.{rowAt}
 use Rattle.kept.specs.Fit.{isFit}
 use Rattle.kept.specs.Rows.{hasRow}
+use Rattle.kept.proofs.Laws.Fit.{isFit→}
 use Rattle.table.specs.Rescore.{newTable, rescoreTable}
 use Rattle.table.proofs.Changing.Rescore.{rescore-done}
 use Rattle.table.proofs.Changing.RescoredTables.{rescore-accepts-iff}
@@ -47,7 +48,7 @@ module _ (W : Width) (t : Table) (c : ℕ) (z : ℤ) (s : ℕ) (taken : rescoreT
     new-fit = rescored-fit W facts t c z s (accepted .0) (accepted .2)
 
     rework-fit : Fit W (rescoreTable W t c z s .given)
-    rework-fit = subst (Fit W) rework-given new-fit
+    rework-fit = isFit→ W facts (rescoreTable W t c z s .given) (subst (λ (u : Table). T (isFit W u)) rework-given new-fit)
 
     rework-row : (i : ℕ) → i < t .rows → T (inside c (rowAt t i .cluster)) → WorkedRow W (rescoreTable W t c z s .given) i
     rework-row i l h =

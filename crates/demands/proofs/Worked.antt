@@ -1,6 +1,4 @@
--- A row that is worked out again stands to the rows of its table as the paper's formulas say.
--- places, and sublists by their images
-mod Lists
+-- A row that is worked out again stands to the rows of its table as the rules' formulas say.
 -- the first key of several tuples, and the counts where there is none
 mod Keys
 -- tuples with no zero count, as keys and as sets

@@ -30,7 +30,7 @@ use Rattle.shapes.specs.Shape.{Shape}
 use Rattle.shapes.specs.Text.{textBytes}
 use Rattle.shapes.specs.Drawn.{ascending}
 use Rattle.answers.specs.declared.refusal.Answer.the-variants.{Done}
-use Rattle.answers.specs.Outcome.{Outcome, outcomeOf, written}
+use Rattle.answers.specs.Outcome.{outcomeOf, written}
 use Rattle.cluster.specs.declared.record.Record.{Record}
 use Rattle.cluster.specs.Record.{recordBytes, rowIn}
 use Rattle.cluster.specs.Rule.{KeepsScore, keepsRules}
@@ -41,6 +41,7 @@ use Rattle.lists.specs.Listing.{listed, readList}
 use Rattle.lists.specs.Accepted.{Bytes, Accepted, HasCluster}
 use Rattle.kept.specs.declared.table.Table.{Table}
 use Rattle.kept.specs.View.{rowAt, resultAt, entryAt, zeroTable}
+use Rattle.kept.specs.Fit.{isFit}
 use Rattle.kept.specs.Rows.{placeOf, leafSet}
 use Rattle.members.specs.Draw.{leafRow, membersOf, noMembers, drawnTree}
 use Rattle.table.specs.Build.{buildTable}
@@ -67,12 +68,13 @@ pub record Demand1 : Type 0 where
   -- lists
   pub read-list : (l : List ℕ) → Answered (readList narrow l) (listing narrow l) (Accepted narrow l) (listed [])
   pub build : (l : List ℕ) (d : ℕ) → Answered (buildTable narrow l d) (building narrow l d) (Degree d × Accepted narrow l) zeroTable
-  -- tables, which are all looked up in: a row that is found, and the taxa of the leaf set
+  -- any table is tested and looked up in: whether it is fit, the row of a cluster, and the taxa of the leaf set
+  pub is-fit : (t : Table) → T (isFit narrow t) ↔ Fit narrow t
   pub place-of : (t : Table) (c : ℕ) → t .rows ≤ rowCap → (placeOf t c < t .rows) ↔ HasRow t c
   pub place-at : (t : Table) (c : ℕ) → t .rows ≤ rowCap → placeOf t c < t .rows → rowAt t (placeOf t c) .cluster ≡ c
   pub leaf-set : (t : Table) (x : ℕ) → t .rows ≤ rowCap
       → T (inside (2 ^ x) (leafSet t)) ↔ ((i : ℕ) × (i < t .rows) × T (inside (2 ^ x) (rowAt t i .cluster)))
-  -- tables
+  -- fit tables
   pub rescore : (t : Table) (c : ℕ) (z : ℤ) (s : ℕ)
       → Answered (rescoreTable narrow t c z s) (rescoring narrow t c z s) (Fit narrow t × HasRow t c × KeepsScore z s) t
   pub drawn-tree : (t : Table) → Answered (drawnTree narrow t) (drawing narrow t nothing) (Drawable narrow t) noMembers

@@ -27,7 +27,7 @@ use Rattle.cluster.specs.Rule.{Keeps, KeepsScore}
 use Rattle.lists.specs.Accepted.{FirstBad, FirstRepeat}
 use Rattle.kept.specs.declared.table.Table.{Table}
 use Rattle.kept.specs.View.{rowAt, resultAt}
-use Rattle.kept.specs.Fit.{isFit}
+use Rattle.kept.specs.Facts.{FitTable}
 use Rattle.kept.specs.Rows.{leafSet}
 use Rattle.members.specs.Marked.{total}
 use Rattle.members.specs.Draw.{leafRow, markedRows, membersOf}
@@ -69,7 +69,7 @@ writing r room = when 5 (Kept r → ⊥) (when 11 (length room < recordBytes) no
 -- ---- tables
 
 abbrev pub Fit : Width → Table → Type 0
-Fit W t = T (isFit W t)
+Fit W t = FitTable W t
 
 abbrev pub HasRow : Table → ℕ → Type 0
 HasRow t c = (i : ℕ) × (i < t .rows) × (rowAt t i .cluster ≡ c)

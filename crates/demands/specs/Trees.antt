@@ -17,7 +17,6 @@ use lib.Dec.{T, leb}
 use lib.IntN.{pos}
 use lib.ListN.{length}
 use lib.Signed.{ltZ}
-use Rattle.laws.specs.Cluster.{unionOf}
 use Rattle.laws.specs.Limits.{Width}
 use Rattle.laws.specs.Lists.{Once, Same}
 use Rattle.laws.specs.Row.{Row}
@@ -26,6 +25,7 @@ use Rattle.trees.specs.Tree.{treesOn}
 use Rattle.trees.specs.Heaviest.{weightOf, tieFirst}
 use Rattle.trees.specs.Result.{Result, marksOf}
 use Rattle.lists.specs.Records.{rowsOf}
+use Rattle.drawing.specs.Built.{leaves}
 use Rattle.shapes.specs.Characters.{characters}
 use Rattle.shapes.specs.Decimal.{decimal}
 use Rattle.shapes.specs.Shape.{Shape, verticesOf, isOrdered}
@@ -33,7 +33,7 @@ use Rattle.shapes.specs.Shape.{Shape, verticesOf, isOrdered}
 -- ---- the trees of a list
 
 abbrev pub leafSetOf : Width → List ℕ → ℕ
-leafSetOf W l = unionOf (clustersOf (rowsOf W l))
+leafSetOf W l = leaves (rowsOf W l)
 
 abbrev pub treesAt : Width → ℕ → List ℕ → ℕ → List (List ℕ)
 treesAt W d l C = treesOn (W .taxa) d (scoredIn (rowsOf W l)) C

@@ -11,7 +11,6 @@
 -- Assumes nothing.
 use mathlib.Core.Path.{_≡_}
 use mathlib.Core.Logic.{_⊎_, _≢_, _↔_}
-use mathlib.Core.Bool.{Bool}
 use mathlib.Core.List.{List, [], _∷_, map, List·Memᴰ as Mem}
 use Prim.Native.Nat.{ℕ}
 use lib.Dec.{T}
@@ -21,7 +20,7 @@ use Rattle.laws.specs.Cluster.{single}
 use Rattle.laws.specs.Limits.{Width}
 use Rattle.laws.specs.Lists.{keep, any}
 use Rattle.laws.specs.Row.{Row, isScored}
-use Rattle.trees.specs.Rows.{Entry, sc}
+use Rattle.trees.specs.Rows.{sc}
 use Rattle.trees.specs.Tuple.{tuples}
 use Rattle.trees.specs.Heaviest.{tieFirst}
 use Rattle.trees.specs.Result.{Result, blank}

@@ -1,36 +1,32 @@
--- What is drawn of a built table (RULES 12, demand 2): the first heaviest tree, and 7 exactly where there is none. A rescored built table
--- is again a built table (`rescore-is-build` of `trees`), so all of this holds of it too. The tree: `LeafTree.antt`; the words:
--- `specs/Built.antt`.
+-- What is drawn of the built table of rows: the first heaviest tree, and 7 exactly where there is none. Demand 2, of a list's bytes and
+-- after any changes, rests on it (the crate `demands`). The tree: `LeafTree.antt`; the words: `specs/Built.antt`.
 --     refused-iff            nothing is drawn, for want of a tree, exactly where there is none
 --     drawn-iff              a tree is drawn exactly where there is one
---     never-unfit            and 8 is never sent back
 --     drawTree-none, drawText-none     what is sent back where there is none
 --     drawTree-is, drawText-is         and where xs is the first heaviest tree, in any room
---     drawTree-built, drawText-built   both in one: what is drawn, by the first heaviest tree if there is one
 --     drawTree-fits, drawText-fits     a room of so many numbers, or bytes, is always enough
 -- Assumes nothing.
 use mathlib.Core.Path.{_≡_, refl, sym, ap, ap₂, _∙_}
 use mathlib.Core.Logic.{_⊎_, inl, inr, _≢_, _↔_}
 use mathlib.Core.Bool.{true}
-use mathlib.Core.Option.{Option, none, some, Option·none-ne-some, Option·some-injective}
-use mathlib.Core.List.{List, [], _∷_, _++_, cons-ne-nil}
+use mathlib.Core.Option.{Option, none, some, Option·none-ne-some}
+use mathlib.Core.List.{List, [], _++_}
 use Prim.Native.Nat.{ℕ, _≤_}
 use native.Mathlib.Omega.{arith}
 use lib.ListN.{length, drop}
 use Rattle.laws.specs.Limits.{Width}
 use Rattle.laws.specs.Row.{Row}
 use Rattle.laws.specs.Widths.{WidthFacts}
+use Rattle.laws.proofs.Keep.{empty-or}
 use Rattle.laws.proofs.Tests.{T-true, T-false}
 use Rattle.answers.specs.declared.refusal.Answer.the-variants.{Done, Refused}
 use Rattle.answers.specs.declared.refusal.Refusal.{Refusal}
-use Rattle.answers.specs.declared.refusal.Refusal.the-variants.{NoTree, Unfit}
-use Rattle.answers.specs.Refusal.{numberOf}
+use Rattle.answers.specs.declared.refusal.Refusal.the-variants.{NoTree}
 use Rattle.answers.specs.Reasons.{firstReason}
-use Rattle.answers.specs.Outcome.{Outcome, outcomeOf, written}
+use Rattle.answers.specs.Outcome.{outcomeOf, written}
 use Rattle.answers.proofs.Laws.Outcome.{written-whole}
 use Rattle.trees.specs.Heaviest.{firstHeaviest}
 use Rattle.trees.proofs.Formula.Rows.{givenOf}
-use Rattle.trees.proofs.Theorems.{none-iff}
 use Rattle.trees.proofs.Sets.TreeFacts.{Given}
 use Rattle.shapes.specs.Drawn.{ascending, textOf}
 use Rattle.shapes.specs.Nests.{TreeOn}
@@ -43,14 +39,10 @@ use Rattle.table.proofs.Laws.Build.{Buildable}
 use Rattle.members.specs.Draw.{hasTree, isDrawable, drawReasons}
 use Rattle.members.proofs.Laws.Draw.{nothing-refused}
 use Rattle.drawing.specs.Draw.{drawTree, drawText}
-use Rattle.drawing.specs.Built.{builtFrom, leaves, treesOf, treeDrawn, listMax}
+use Rattle.drawing.specs.Built.{builtFrom, leaves, treesOf, listMax}
 use Rattle.drawing.proofs.Laws.Draw.{tree-refused, tree-put, text-refused, text-put}
 use Rattle.drawing.proofs.LeafRow.{leaf-set-is, has-tree-iff}
 use Rattle.drawing.proofs.LeafTree.{first-tree, is-tree, members-back, members-are, listed, drawable}
-
-empty-or : {A : Type 0} (l : List A) → (l ≡ []) ⊎ (l ≢ [])
-empty-or [] = inl refl
-empty-or (x ∷ xs) = inr (cons-ne-nil x xs)
 
 module _ (W : Width) (facts : WidthFacts W) (d : ℕ) (rs : List Row) (k : Buildable W d rs) where
   abbrev t : Table
@@ -86,16 +78,6 @@ module _ (W : Width) (facts : WidthFacts W) (d : ℕ) (rs : List Row) (k : Build
 
   pub drawn-iff : (firstReason (drawReasons W (builtFrom W d rs)) ≡ none) ↔ (treesOf W d rs ≢ [])
   drawn-iff = (λ e n. Option·none-ne-some NoTree (sym e ∙ no-trees n), some-tree)
-
-  pub never-unfit : firstReason (drawReasons W (builtFrom W d rs)) ≢ some Unfit
-  never-unfit e = go (empty-or (treesOf W d rs))
-    where
-      other : NoTree ≢ Unfit
-      other q = let n : numberOf NoTree ≡ numberOf Unfit = ap numberOf q in omega (arith, n)
-
-      go : (treesOf W d rs ≡ []) ⊎ (treesOf W d rs ≢ []) → ⊥
-      go (inl n) = other (Option·some-injective NoTree Unfit (sym (no-trees n) ∙ e))
-      go (inr n) = Option·none-ne-some Unfit (sym (some-tree n) ∙ e)
 
   -- ---- what is drawn
 
@@ -135,24 +117,3 @@ module _ (W : Width) (facts : WidthFacts W) (d : ℕ) (rs : List Row) (k : Build
         let small = given .sound (leaves rs) (tree .listed (leaves rs) (tree .top)) .1 in
         let short = text-length xs (leaves rs) tree-on-leaves W facts small in
         drawText-is ∙ written-whole [] (textOf xs (leaves rs)) l refl (omega (arith, short))
-
-  -- ---- both in one
-
-  module _ (l : List ℕ) where
-    -- what is drawn where there is none, and where xs is the first heaviest
-    by-first : (w : Outcome (List ℕ)) (out : List ℕ → List ℕ) → (treesOf W d rs ≡ [] → w ≡ outcomeOf (Refused NoTree) l)
-        → ((xs : List ℕ) → firstHeaviest rs (treesOf W d rs) ≡ some xs → w ≡ written [] (out xs) l)
-        → w ≡ treeDrawn (firstHeaviest rs (treesOf W d rs)) out l
-    by-first w out f g = go (firstHeaviest rs (treesOf W d rs)) refl
-      where
-        go : (x : Option (List ℕ)) → firstHeaviest rs (treesOf W d rs) ≡ x → w ≡ treeDrawn x out l
-        go none e = f (none-iff (W .taxa) d rs (k .facts) (leaves rs) .0 e)
-        go (some xs) e = g xs e
-
-    pub drawTree-built : drawTree W (builtFrom W d rs) l ≡ treeDrawn (firstHeaviest rs (treesOf W d rs)) ascending l
-    drawTree-built = by-first (drawTree W t l) ascending (λ n. drawTree-none n l) (λ xs e. drawTree-is xs e l)
-
-    pub drawText-built : drawText W (builtFrom W d rs) l
-        ≡ treeDrawn (firstHeaviest rs (treesOf W d rs)) (λ (xs : List ℕ). textOf xs (leaves rs)) l
-    drawText-built =
-        by-first (drawText W t l) (λ (xs : List ℕ). textOf xs (leaves rs)) (λ n. drawText-none n l) (λ xs e. drawText-is xs e l)

@@ -13,7 +13,3 @@ pub mod LeafRow
 pub mod LeafTree
 -- what is drawn of a built table
 pub mod DrawnTables
--- and of the built table of an accepted list
-pub mod DrawnLists
--- and after any changes
-pub mod DrawnChanges

@@ -1,20 +1,15 @@
--- What a list's rows have to be drawn, stated by its trees: the words of the theorems (RULES 12, demand 2). Laws: `proofs/LeafRow.antt`;
--- the theorems stand in `proofs/DrawnTables.antt`, `proofs/DrawnLists.antt` and `proofs/DrawnChanges.antt`.
+-- What a list's rows have to be drawn, stated by its trees (RULES 3 and 9). Laws: `proofs/LeafRow.antt`; the theorems stand in
+-- `proofs/DrawnTables.antt`, and in the crate `demands`.
 --     builtFrom W d rs     the built table of rows
 --     leaves rs            the leaf set of rows
 --     treesOf W d rs       the trees on it
---     treeDrawn x out l    what is drawn where x is the first heaviest tree, if there is one: out of it, put into the room l
 --     listMax W            the most clusters that a tree has
 -- Assumes nothing.
-use mathlib.Core.Option.{Option, none, some}
-use mathlib.Core.List.{List, []}
+use mathlib.Core.List.{List}
 use Prim.Native.Nat.{ℕ, _-_, _*_}
 use Rattle.laws.specs.Cluster.{unionOf}
 use Rattle.laws.specs.Limits.{Width}
 use Rattle.laws.specs.Row.{Row}
-use Rattle.answers.specs.declared.refusal.Answer.the-variants.{Refused}
-use Rattle.answers.specs.declared.refusal.Refusal.the-variants.{NoTree}
-use Rattle.answers.specs.Outcome.{Outcome, outcomeOf, written}
 use Rattle.trees.specs.Rows.{clustersOf, scoredIn}
 use Rattle.trees.specs.Tree.{treesOn}
 use Rattle.trees.specs.Built.{builtTable}
@@ -29,10 +24,6 @@ leaves rs = unionOf (clustersOf rs)
 
 abbrev pub treesOf : Width → ℕ → List Row → List (List ℕ)
 treesOf W d rs = treesOn (W .taxa) d (scoredIn rs) (leaves rs)
-
-abbrev pub treeDrawn : Option (List ℕ) → (List ℕ → List ℕ) → List ℕ → Outcome (List ℕ)
-treeDrawn none out l = outcomeOf (Refused NoTree) l
-treeDrawn (some xs) out l = written [] (out xs) l
 
 -- a tree has at most two clusters for each taxon, less one: 63
 abbrev pub listMax : Width → ℕ

@@ -1,18 +1,18 @@
 -- What stands in ascending places, the largest first: `downTo` of `specs/Orders.antt`.
---     down-length, down-ext, down-map     how many; functions that agree below n; a function of each
+--     down-length, down-ext, down-at, down-map     how many; functions that agree below n, both ways; a function of each
 --     mem-down, down-mem         what stands there is what the places have
 --     elem-down-iff              a number is one of them, as a test
 --     falling-down, down-falling     the list falls exactly where later places have more
 --     every→down, down→every     what holds of all is what holds at each place
 --     down-passed, down-stopped     one step of a loop over the places from the last down, and its stop
 -- Assumes nothing.
-use mathlib.Core.Path.{_≡_, refl, sym, ap, ap₂, subst}
+use mathlib.Core.Path.{_≡_, refl, sym, ap, ap₂, _∙_, subst}
 use mathlib.Core.Logic.{_↔_}
 use mathlib.Core.Bool.{Bool, true, false}
-use mathlib.Core.List.{List, _∷_, map}
+use mathlib.Core.List.{List, _∷_, map, head-eq-of-cons-eq, tail-eq-of-cons-eq}
 use mathlib.Core.List.{List·Memᴰ as Mem, List·Memᴰ·head as here, List·Memᴰ·tail as there, List·Memᴰ·not-nil as mem-nil}
 use Prim.Native.Nat.{ℕ, zero, suc, _-_, _≤_, _<_}
-use native.Mathlib.Decide.{decLe}
+use native.Mathlib.Decide.{decLe, ℕ-discrete}
 use native.Mathlib.Omega.{arith}
 use lib.Dec.{T}
 use lib.ListN.{length}
@@ -29,6 +29,14 @@ module _ {A : Type 0} where
   pub down-ext : (f g : ℕ → A) (n : ℕ) → ((j : ℕ) → j < n → f j ≡ g j) → downTo f n ≡ downTo g n
   down-ext f g zero h = refl
   down-ext f g (suc n) h = ap₂ (λ (x : A) (xs : List A). x ∷ xs) (h n (omega arith)) (down-ext f g n (λ j k. h j (omega arith)))
+
+  pub down-at : (f g : ℕ → A) (n : ℕ) → downTo f n ≡ downTo g n → (i : ℕ) → i < n → f i ≡ g i
+  down-at f g zero e i l = absurd (omega arith)
+  down-at f g (suc n) e i l = go (ℕ-discrete i n) (down-at f g n (tail-eq-of-cons-eq e) i)
+    where
+      go : Dec (i ≡ n) → (i < n → f i ≡ g i) → f i ≡ g i
+      go (yes q) ih = ap f q ∙ head-eq-of-cons-eq e ∙ ap g (sym q)
+      go (no q) ih = ih (omega (arith, q))
 
   pub down-map : {B : Type 0} (g : A → B) (f : ℕ → A) (n : ℕ) → map g (downTo f n) ≡ downTo (λ (i : ℕ). g (f i)) n
   down-map g f zero = refl

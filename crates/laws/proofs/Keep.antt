@@ -7,14 +7,14 @@
 --     keep-keep, any-keep            a filter after a filter, and a test after it
 --     keep-swap                       two filters, in either order
 --     keep-append, keep-map           a filter of two lists one behind the other, and of images
---     nil-of-none                     a list with no element
+--     empty-or, nil-of-none           a list has no element, or some; it has none
 --     keep-none, keep-all             no element passes, or all do
 --     length-keep-le                  a filter leaves no more elements than there are
 -- Assumes nothing.
 use mathlib.Core.Path.{_≡_, refl, sym, ap, ap₂, _∙_, subst}
-use mathlib.Core.Logic.{_⊎_, inl, inr}
+use mathlib.Core.Logic.{_⊎_, inl, inr, _≢_}
 use mathlib.Core.Bool.{Bool, true, false, _&&_, _||_, and-comm}
-use mathlib.Core.List.{List, [], _∷_, _++_, map, Memᴰ·append-left, Memᴰ·append-right, List·Memᴰ·append-cases, Memᴰ·cast}
+use mathlib.Core.List.{List, [], _∷_, _++_, map, Memᴰ·append-left, Memᴰ·append-right, List·Memᴰ·append-cases, Memᴰ·cast, cons-ne-nil}
 use mathlib.Core.List.{List·Memᴰ as Mem, List·Memᴰ·head as here, List·Memᴰ·tail as there, List·Memᴰ·not-nil as mem-nil}
 use Prim.Native.Nat.{ℕ, suc, _≤_, zero-le, suc-le-suc}
 use native.Mathlib.Nat.{le-suc, le-trans}
@@ -115,6 +115,10 @@ module _ {A : Type 0} where
       go : (b : Bool) → keep p (xs ++ t) ≡ keep p xs ++ keep p t → keepIf b x (keep p (xs ++ t)) ≡ keepIf b x (keep p xs) ++ keep p t
       go true e = ap (λ (r : List A). x ∷ r) e
       go false e = e
+
+  pub empty-or : (l : List A) → (l ≡ []) ⊎ (l ≢ [])
+  empty-or [] = inl refl
+  empty-or (x ∷ xs) = inr (cons-ne-nil x xs)
 
   pub nil-of-none : (l : List A) → ((x : A) → Mem x l → ⊥) → l ≡ []
   nil-of-none [] f = refl

@@ -1,5 +1,4 @@
 -- What is drawn of a built table, in words: demand 2 of tree and text.
---     empty-or          a list has no element, or some
 --     room-told         putting something into a room succeeds, or is refused 11
 --     shape-of, shape-is     a tree has an ordered shape, and one only
 --     tree-on           the first heaviest tree is a tree on the leaf set
@@ -8,7 +7,7 @@
 use mathlib.Core.Path.{_≡_, refl, sym, ap, _∙_}
 use mathlib.Core.Logic.{_⊎_, inl, inr, _≢_, _↔_}
 use mathlib.Core.Option.{Option, none, some, Option·some-injective}
-use mathlib.Core.List.{List, [], _∷_, cons-ne-nil}
+use mathlib.Core.List.{List, []}
 use Prim.Native.Nat.{ℕ, _≤_, _<_}
 use native.Mathlib.Decide.{decLe}
 use native.Mathlib.Omega.{arith}
@@ -17,7 +16,7 @@ use Rattle.laws.specs.Cluster.{size}
 use Rattle.laws.specs.Limits.{Width}
 use Rattle.laws.specs.Row.{Row}
 use Rattle.laws.specs.Widths.{WidthFacts}
-use Rattle.trees.specs.Heaviest.{tieFirst, firstHeaviest}
+use Rattle.trees.specs.Heaviest.{firstHeaviest}
 use Rattle.trees.proofs.Formula.Rows.{givenOf}
 use Rattle.trees.proofs.Theorems.{none-iff}
 use Rattle.shapes.specs.Shape.{Shape}
@@ -36,12 +35,8 @@ use Rattle.drawing.proofs.LeafTree.{first-tree, leaf-best}
 use Rattle.drawing.proofs.DrawnTables.{drawTree-none, drawText-none, drawTree-is, drawText-is, drawTree-fits, drawText-fits}
 use Rattle.demands.specs.Demands.{First, Draws}
 use Rattle.demands.specs.Sending.{refusal}
-use Rattle.demands.specs.Trees.{leafSetOf, treesOf, FirstBy, ShapeOf}
+use Rattle.demands.specs.Trees.{leafSetOf, treesOf, ShapeOf}
 use Rattle.demands.proofs.Drawn.First.{found→, →found}
-
-pub empty-or : {A : Type 0} (l : List A) → (l ≡ []) ⊎ (l ≢ [])
-empty-or [] = inl refl
-empty-or (x ∷ xs) = inr (cons-ne-nil x xs)
 
 -- ---- into a room
 

@@ -4,9 +4,9 @@
 --     prints            the line of a list tells its trees
 -- Assumes nothing.
 use mathlib.Core.Path.{_≡_, refl, sym, ap, ap₂, _∙_, subst}
-use mathlib.Core.Logic.{_⊎_, inl, inr, _≢_, _↔_}
+use mathlib.Core.Logic.{_⊎_, inl, inr, _≢_}
 use mathlib.Core.Bool.{Bool, true, false, cond}
-use mathlib.Core.Option.{Option, none, some}
+use mathlib.Core.Option.{Option, some}
 use mathlib.Core.List.{List, [], _∷_, _++_, append-assoc}
 use mathlib.Core.List.{List·Memᴰ as Mem, List·Memᴰ·not-nil as mem-nil}
 use Prim.Native.Nat.{ℕ, _+_, _≤_, _<_}
@@ -19,6 +19,7 @@ use lib.Seq.{take-append-seam, drop-append-seam}
 use Rattle.laws.specs.Limits.{narrow, isDegree}
 use Rattle.laws.specs.Lists.{every}
 use Rattle.laws.specs.Row.{Row}
+use Rattle.laws.proofs.Keep.{empty-or}
 use Rattle.laws.proofs.Tests.{T-and, cond-true, cond-false}
 use Rattle.laws.proofs.Width.{narrow-facts, degree-range}
 use Rattle.trees.specs.Result.{Result}
@@ -58,7 +59,7 @@ use Rattle.demands.specs.Sending.{refusal}
 use Rattle.demands.specs.Trees.{leafSetOf, treesOf, TellsTrees, ShapeOf, printedCount}
 use Rattle.demands.proofs.Drawn.First.{→found}
 use Rattle.demands.proofs.Drawn.Told.{rows-tell}
-use Rattle.demands.proofs.Drawn.Draws.{empty-or, shape-is, tree-on}
+use Rattle.demands.proofs.Drawn.Draws.{shape-is, tree-on}
 
 -- ---- what is put into every room
 

@@ -22,7 +22,6 @@ use Rattle.lists.specs.Records.{rowsOf}
 use Rattle.kept.specs.declared.table.Table.{Table}
 use Rattle.kept.specs.View.{rowAt, resultAt}
 use Rattle.table.proofs.Laws.Build.{Buildable}
-use Rattle.members.specs.Draw.{leafRow}
 use Rattle.drawing.specs.Built.{builtFrom}
 use Rattle.drawing.proofs.LeafRow.{rows-are, row-at, leaf-set-is, leaf-result, leaf-listed}
 use Rattle.demands.specs.Demands.{RowsTell}

@@ -1,5 +1,5 @@
 -- What stands in a row of a fit table that is worked out over all rows of the table.
---     worked-row     the row is as the paper's formulas say
+--     worked-row     the row is as the rules' formulas say
 -- Assumes nothing.
 use mathlib.Core.Path.{_≡_, refl, sym, ap, _∙_, subst, subst₂}
 use mathlib.Core.Logic.{_⊎_, inl, inr, _↔_}
@@ -19,6 +19,7 @@ use Rattle.laws.specs.Lists.{keep, sublists}
 use Rattle.laws.specs.Row.{Row, isScored}
 use Rattle.laws.proofs.Appended.{map-through}
 use Rattle.laws.proofs.Down.{down-mem}
+use Rattle.laws.proofs.Falling.{keep-only}
 use Rattle.laws.proofs.Keep.{mem-keep, mem-of-keep, keep-map}
 use Rattle.laws.proofs.Tests.{T-or, or-l, or-r, eq→eqb, cond-true, cond-false}
 use Rattle.trees.specs.Rows.{scoredIn, cl, sc}
@@ -38,7 +39,6 @@ use Rattle.kept.specs.View.{rowAt, resultAt, entryAt, entriesOf, clustersIn}
 use Rattle.table.proofs.Fitting.FitTables.{FitRows}
 use Rattle.demands.specs.Worked.{tuplesAt, liveAt, setOf, union, sumBests, Chosen, Joined, WorkedRow}
 use Rattle.demands.proofs.Worked.Keys.{Found, nothing, leads, found, dead-sum, dead-many}
-use Rattle.demands.proofs.Worked.Lists.{keep-only}
 use Rattle.demands.proofs.Worked.Standing.{fit-full}
 use Rattle.demands.proofs.Worked.Tuples.{memberIn, set-of-marks, Live, live→, key-is, member-other, same-members}
 

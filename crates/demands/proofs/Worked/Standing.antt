@@ -23,7 +23,7 @@ use Rattle.laws.specs.Row.{Row, isScored}
 use Rattle.laws.specs.Widths.{WidthFacts}
 use Rattle.laws.proofs.Appended.{map-through}
 use Rattle.laws.proofs.Cluster.{le-of-inside}
-use Rattle.laws.proofs.Down.{down-length, down-map, down-mem}
+use Rattle.laws.proofs.Down.{down-length, down-at, down-map, down-mem}
 use Rattle.laws.proofs.Keep.{mem-of-keep, keep-none}
 use Rattle.laws.proofs.Sublists.{inFront, mem-of-sublist, keep-sublists-cons}
 use Rattle.trees.specs.Rows.{cl, sc}
@@ -41,7 +41,6 @@ use Rattle.kept.proofs.Laws.View.{entries-table}
 use Rattle.table.specs.Rescore.{newTable}
 use Rattle.table.proofs.Fitting.AgainFit.{again-length}
 use Rattle.table.proofs.Fitting.FitTables.{FitRows, fit-rows, putEntry}
-use Rattle.demands.proofs.Worked.Lists.{down-at}
 
 -- none of some clusters is empty
 abbrev pub Full : List ℕ → Type 0

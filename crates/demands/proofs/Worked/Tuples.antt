@@ -19,7 +19,7 @@ use Rattle.laws.specs.Limits.{Width}
 use Rattle.laws.specs.Lists.{keep, any, sublists}
 use Rattle.laws.specs.Orders.{Falling}
 use Rattle.laws.proofs.Cluster.{inside-trans, inside-antisym, zero-of-apart, apart-of-inside, inside-refl}
-use Rattle.laws.proofs.Falling.{falling-once}
+use Rattle.laws.proofs.Falling.{falling-once, sublist-only}
 use Rattle.laws.proofs.Keep.{mem-of-keep, every→, any→, →any, keep-ext}
 use Rattle.laws.proofs.Once.{once-map-keep}
 use Rattle.laws.proofs.Tests.{neq→}
@@ -35,7 +35,6 @@ use Rattle.kept.proofs.Laws.Fit.{fit→}
 use Rattle.table.proofs.Fitting.FitTables.{FitRows}
 use Rattle.table.proofs.Rows.Marked.{marked-mem, every-marked→, marksOf-marked}
 use Rattle.demands.specs.Worked.{setOf, sumBests}
-use Rattle.demands.proofs.Worked.Lists.{sublist-only}
 use Rattle.demands.proofs.Worked.Standing.{fit-full}
 
 pub set-of-marks : (cs : List ℕ) (S : Fam) → Falling cs → setOf cs (marksIn cs S) ≡ keep S cs

@@ -5,7 +5,7 @@
 --     text-refused, text-put    so for the text
 --     drawn-text-refused, drawn-text-done     the text by value
 --     text→refused, text→drawn  what its answer tells: why nothing is drawn, or `TextDrawn` of `specs/Draw.antt`
---     tree-only, text-only, drawn-text-only     two outcomes that a promise allows are equal
+--     drawn-text-only           two outcomes that the promise of the text by value allows are equal
 -- Assumes nothing.
 use mathlib.Core.Path.{_≡_, refl, sym, ap, ap₂, _∙_}
 use mathlib.Core.List.{List, []}
@@ -62,12 +62,6 @@ module _ (W : Width) (t : Table) (l : List ℕ) where
   pub text-put : firstReason (drawReasons W t) ≡ none → written [] (leafText t) l ≡ drawText W t l
   unfolding drawText
   text-put e = sym (written-passed (drawReasons W t) (leafText t) l e)
-
-  pub tree-only : (a b : Answer) (x y : List ℕ) → outcomeOf a x ≡ drawTree W t l → outcomeOf b y ≡ drawTree W t l → (a ≡ b) × (x ≡ y)
-  tree-only = outcome-only
-
-  pub text-only : (a b : Answer) (x y : List ℕ) → outcomeOf a x ≡ drawText W t l → outcomeOf b y ≡ drawText W t l → (a ≡ b) × (x ≡ y)
-  text-only = outcome-only
 
 -- ---- by value
 

@@ -1,7 +1,7 @@
 -- Results and rows that are all zero.
 --     isZero→, nothing→, →nothing, isBlank→     the tests as facts
 --     nothing-is            no mark, mark and best weight, in the order of the code's tests
---     Blank, empty→blank, blank→empty     row i of a table is all zero, array by array
+--     Blank, empty→blank, blank-entry, blank→empty     row i of a table is all zero, array by array
 --     blank-past            past its rows, and past its arrays, a table shows nothing but zeros
 -- Assumes nothing.
 use mathlib.Core.Path.{_≡_, sym, ap, _∙_, subst}
@@ -98,20 +98,21 @@ empty→blank t i h =
       high = omega (arith, m);
     }
 
+pub blank-entry : (t : Table) (i : ℕ) → Blank t i
+    → entryAt t i ≡ record { row = record { cluster = 0; weight = pos 0; state = 0 }; val = blank }
+blank-entry t i b = λ k. record {
+  row = record { cluster = b .cluster k; weight = b .weight k; state = b .state k };
+  val = record {
+    length = b .length k;
+    count = b .count k;
+    mark = b .mark k;
+    best = b .best k;
+    members = b .low k + wordValues * b .high k;
+  };
+}
+
 pub blank→empty : (t : Table) (i : ℕ) → Blank t i → T (isEmpty (entryAt t i))
-blank→empty t i b = subst (λ (e : Entry Result). T (isEmpty e)) (sym same) tt
-  where
-    same : entryAt t i ≡ record { row = record { cluster = 0; weight = pos 0; state = 0 }; val = blank }
-    same = λ k. record {
-      row = record { cluster = b .cluster k; weight = b .weight k; state = b .state k };
-      val = record {
-        length = b .length k;
-        count = b .count k;
-        mark = b .mark k;
-        best = b .best k;
-        members = b .low k + wordValues * b .high k;
-      };
-    }
+blank→empty t i b = subst (λ (e : Entry Result). T (isEmpty e)) (sym (blank-entry t i b)) tt
 
 -- past the array's end there is nothing but the default
 pub blank-past : (t : Table) → Sized t → ((i : ℕ) → t .rows ≤ i → i < rowCap → T (isEmpty (entryAt t i)))

@@ -1,8 +1,8 @@
 -- A fit row and a fit table as facts. The results of a row: `Results.antt`.
 --     cluster-pos                       a cluster that keeps the record rules has a taxon
---     FitRow, fit→, →fit, fit-rules     a fit row
+--     fit→, →fit, fit-rules     a fit row
 --     right→, →right, right-more, right-stop, right-none     all rows; the same from the last down
---     FitTable, isFit→, →isFit, unfit   a fit table
+--     isFit→, →isFit, unfit     a fit table
 --     fit-rows                          where degree bound, number and clusters are right, the rows tell
 --     fit-falls, fit-each, entries-rising     a fit table by the entries of its rows
 -- Assumes nothing.
@@ -10,7 +10,7 @@ use mathlib.Core.Path.{_≡_, refl, subst}
 use mathlib.Core.Bool.{Bool, true, false}
 use mathlib.Core.List.{List}
 use mathlib.Core.List.{List·Memᴰ as Mem}
-use Prim.Native.Nat.{ℕ, _-_, _^_, _≤_, _<_}
+use Prim.Native.Nat.{ℕ, _-_, _≤_, _<_}
 use native.Mathlib.Decide.{decLe}
 use native.Mathlib.Nat.{pos-of-ne-zero}
 use native.Mathlib.Omega.{arith}
@@ -23,29 +23,22 @@ use Rattle.laws.specs.Row.{Row}
 use Rattle.laws.specs.Widths.{WidthFacts}
 use Rattle.laws.proofs.Down.{mem-down, every→down, down→every, down-passed, down-stopped, falling-down, down-falling}
 use Rattle.laws.proofs.Tests.{T-and, and-T, T-true, T-false}
-use Rattle.cluster.specs.Rule.{Keeps, keepsRules}
+use Rattle.cluster.specs.Rule.{keepsRules}
 use Rattle.cluster.proofs.Laws.Rule.{rules→, →rules}
 use Rattle.trees.specs.Rows.{Entry}
 use Rattle.trees.specs.Result.{Result}
 use Rattle.kept.specs.declared.table.Table.{Table}
-use Rattle.kept.specs.Arrays.{Bounded}
+use Rattle.kept.specs.Facts.{FitRow, FitTable}
 use Rattle.kept.specs.View.{entryAt, entriesOf, clustersIn, clustersDown}
-use Rattle.kept.specs.Blank.{isEmpty}
 use Rattle.kept.specs.Results.{isRanged, isMatched}
 use Rattle.kept.specs.Fit.{fitEntry, isRising, isRowRight, hasRightRows, isFit}
 use Rattle.kept.proofs.Laws.Clusters.{clusters-are, Ascends, isRising→, →isRising}
-use Rattle.kept.proofs.Laws.Results.{Ranged, ranged→, →ranged, Matched, matched→, →matched}
+use Rattle.kept.proofs.Laws.Results.{ranged→, →ranged, matched→, →matched}
 
 -- ---- a row
 module _ (W : Width) (r : Row) where
   pub cluster-pos : T (keepsRules W r) → 0 < r .cluster
   cluster-pos h = pos-of-ne-zero (rules→ W r h .1 .has-taxon)
-
-pub record FitRow (W : Width) (cs : List ℕ) (r : Row) (v : Result) : Type 0 where
-  pub width : r .cluster < 2 ^ W .taxa
-  pub rules : Keeps (r .cluster) (r .weight) (r .state) false
-  pub ranged : Ranged W r v
-  pub matched : Matched cs r v
 
 module _ (W : Width) (cs : List ℕ) (e : Entry Result) where
   pub fit-rules : T (fitEntry W cs e) → T (keepsRules W (e .row))
@@ -94,12 +87,6 @@ module _ (W : Width) (cs : List ℕ) (t : Table) (n : ℕ) where
   right-none = refl
 
 -- ---- a table
-pub record FitTable (W : Width) (t : Table) : Type 0 where
-  pub bounds : Bounded W (t .degree) (t .rows)
-  pub rising : Ascends (t .clusters) (t .rows)
-  pub fit : (i : ℕ) → i < t .rows → T (fitEntry W (clustersIn t) (entryAt t i))
-  pub blank : (i : ℕ) → t .rows ≤ i → i < rowCap → T (isEmpty (entryAt t i))
-
 module _ (W : Width) (facts : WidthFacts W) (t : Table) where
   pub isFit→ : T (isFit W t) → FitTable W t
   unfolding isFit
@@ -112,7 +99,7 @@ module _ (W : Width) (facts : WidthFacts W) (t : Table) where
       let right = right→ W (clustersIn t) t (t .rows) rowCap (e .1) in record {
         bounds = record { degree = a .0; filled = leb→le _ _ (b .0); capped = most };
         rising = isRising→ (t .clusters) (t .rows) (e .0);
-        fit = λ i l. rw (lt-leb (t .rows) i l) at (right i (omega (arith, facts .rows, most)));
+        fit = λ i l. fit→ W (clustersIn t) (entryAt t i) (rw (lt-leb (t .rows) i l) at (right i (omega (arith, facts .rows, most))));
         blank = λ i l m. rw (le-leb (t .rows) i l) at (right i m);
       }
 
@@ -131,7 +118,7 @@ module _ (W : Width) (t : Table) where
     where
       go : (i : ℕ) → i < rowCap → Dec (t .rows ≤ i) → T (isRowRight W (clustersIn t) (t .rows) i (entryAt t i))
       go i l (yes h) = rw (le-leb (t .rows) i h) (f .blank i h l)
-      go i l (no h) = rw (lt-leb (t .rows) i (omega arith)) (f .fit i (omega arith))
+      go i l (no h) = rw (lt-leb (t .rows) i (omega arith)) (→fit W (clustersIn t) (entryAt t i) (f .fit i (omega arith)))
 
   -- where degree bound, number and clusters are right, the rows tell
   pub fit-rows : T (isDegree (t .degree)) → 1 ≤ t .rows → t .rows ≤ W .rows → isRising (t .clusters) (t .rows) ≡ true
@@ -145,7 +132,8 @@ module _ (W : Width) (t : Table) where
   fit-falls f = rw (clusters-are t (t .rows)) (down-falling (λ (i : ℕ). getD (t .clusters) i 0) (t .rows) (f .rising))
 
   pub fit-each : FitTable W t → (e : Entry Result) → Mem e (entriesOf t (t .rows)) → T (fitEntry W (clustersIn t) e)
-  fit-each f e m = let q = mem-down (entryAt t) (t .rows) e m in rw (q .2) (f .fit (q .0) (q .1))
+  fit-each f e m =
+      let q = mem-down (entryAt t) (t .rows) e m in rw (q .2) (→fit W (clustersIn t) (entryAt t (q .0)) (f .fit (q .0) (q .1)))
 
 pub entries-rising : (t : Table) → Falling (clustersIn t) → Ascends (t .clusters) (t .rows)
 entries-rising t f = falling-down (λ (i : ℕ). getD (t .clusters) i 0) (t .rows) (subst Falling (clusters-are t (t .rows)) f)

@@ -1,11 +1,11 @@
 -- The results of a fit row as facts, and in the order of the code's tests.
---     Ranged, ranged→, →ranged        the ranges of a row's results
---     Matched, matched→, →matched     what the count says of marks and best weight
+--     ranged→, →ranged        the ranges of a row's results
+--     matched→, →matched     what the count says of marks and best weight
 --     matchedTests, matched-is        a count that isn't zero, as the code tests it
 --     most-is, minus-fits             the bound of a best weight, as the code has it
 -- Assumes nothing.
 use mathlib.Core.Path.{_≡_, sym, ap, _∙_}
-use mathlib.Core.Logic.{_⊎_, ⊎-elim, ⊎-map, _≢_}
+use mathlib.Core.Logic.{⊎-elim, ⊎-map, _≢_}
 use mathlib.Core.Bool.{Bool, _&&_, _||_, and-assoc}
 use mathlib.Core.List.{List}
 use Prim.Native.Nat.{ℕ, zero, suc, _-_, _*_, _^_, _≤_, _<_}
@@ -13,7 +13,7 @@ use native.Mathlib.Decide.{ℕ-discrete}
 use native.Mathlib.Omega.{arith}
 use borrow.Author.Tests.{eq-eqb, ne-eqb}
 use lib.Dec.{T, eqb, leb, ltb, eqb→eq, leb→le, le→leb, ltb→lt, lt→ltb}
-use lib.IntN.{pos, natAbs, negℤ, _*ℤ_, pos-*ℤ-pos}
+use lib.IntN.{pos, negℤ, _*ℤ_, pos-*ℤ-pos}
 use lib.ListN.{length, getD}
 use lib.Pow.{pow-pos}
 use mir.Facts.{toZ-pos}
@@ -28,22 +28,16 @@ use Rattle.trees.specs.Result.{Result}
 use Rattle.kept.specs.declared.blank.Fields.{Fields}
 use Rattle.kept.specs.View.{clustersDown}
 use Rattle.kept.specs.Blank.{isBlank}
-use Rattle.kept.specs.Marks.{hasMark, everyMarked, isMarkedIn, areInside}
+use Rattle.kept.specs.Marks.{hasMark, isMarkedIn, areInside}
 use Rattle.kept.specs.Results.{isLength, isMark, isRanged, isLight, isMatched}
 use Rattle.kept.specs.Arrays.{Rising}
+use Rattle.kept.specs.Facts.{Ranged, Matched}
 use Rattle.kept.specs.Fields.{listedIn, resultIn, everyBit, isMarkFit}
 use Rattle.kept.proofs.Laws.Blank.{nothing→, →nothing}
 use Rattle.kept.proofs.Laws.Clusters.{everyMarked-is, isMarkedIn-is}
 use Rattle.kept.proofs.Laws.Words.{words-are}
 
 -- ---- the ranges
-pub record Ranged (W : Width) (r : Row) (v : Result) : Type 0 where
-  pub tuples : v .length ≤ W .lengthMax
-  pub counted : v .count ≤ W .countMax
-  pub marked : (v .mark ≡ 0) ⊎ ((v .mark ≡ 1) × (v .count ≡ W .countMax))
-  pub taxon : T (single (r .cluster)) → v .length ≡ 0
-  pub unscored : (T (isScored r) → ⊥) → T (isBlank v)
-
 module _ (W : Width) (r : Row) (v : Result) where
   pub ranged→ : T (isRanged W r v) → Ranged W r v
   ranged→ h =
@@ -76,13 +70,6 @@ module _ (W : Width) (r : Row) (v : Result) where
           (λ e. or-r (eqb (v .mark) 0) _ (and-T (eqb (v .mark) 1) _ (eq→eqb _ _ (e .0)) (eq→eqb _ _ (e .1)))) (f .marked)
 
 -- ---- what a count of zero, and any other count, says
-pub record Matched (cs : List ℕ) (r : Row) (v : Result) : Type 0 where
-  pub below : v .members < 2 ^ length cs
-  pub none : v .count ≡ 0 → (v .members ≡ 0) × (v .mark ≡ 0) × (v .best ≡ pos 0)
-  pub own : v .count ≢ 0 → T (isMarkedIn cs (v .members) (r .cluster))
-  pub inner : v .count ≢ 0 → T (everyMarked cs (v .members) (λ (c : ℕ). inside c (r .cluster)))
-  pub light : v .count ≢ 0 → natAbs (v .best) ≤ weightMax * (2 * size (r .cluster) - 1)
-
 module _ (cs : List ℕ) (r : Row) (v : Result) where
   abbrev ownTest : Bool
   ownTest = isMarkedIn cs (v .members) (r .cluster)

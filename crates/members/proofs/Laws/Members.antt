@@ -21,10 +21,11 @@ use Rattle.laws.proofs.Appended.{once-reverse}
 use Rattle.laws.proofs.Falling.{falling-once}
 use Rattle.laws.proofs.Keep.{every→}
 use Rattle.kept.specs.declared.table.Table.{Table}
-use Rattle.kept.specs.View.{rowAt, entryAt, clustersIn}
+use Rattle.kept.specs.View.{rowAt}
 use Rattle.kept.specs.Fit.{isFit}
 use Rattle.kept.specs.Rows.{shownRows}
-use Rattle.kept.proofs.Laws.Fit.{FitTable, isFit→, fit→}
+use Rattle.kept.specs.Facts.{FitTable}
+use Rattle.kept.proofs.Laws.Fit.{isFit→}
 use Rattle.members.specs.Draw.{leafMarks, markedRows, membersOf, areScored}
 use Rattle.members.proofs.Laws.Marked.{mem-marked, mem-members, falling-members}
 
@@ -52,7 +53,7 @@ module _ (W : Width) (facts : WidthFacts W) (t : Table) (fit : T (isFit W t)) wh
       let q = mem-members (t .clusters) (leafMarks t) (shownRows t) c k in
       let i = q .0 in
       let h = shown (mem-marked (leafMarks t) (shownRows t) i (q .1) .0) in
-      let f = fit→ W (clustersIn t) (entryAt t i) (table .fit i h) in
+      let f = table .fit i h in
       (λ z. f .rules .has-taxon (sym (q .2) ∙ z), rw (q .2) (f .width))
 
   pub members-listed : T (areScored t) → (c : ℕ) → Mem c (membersOf t)

@@ -5,7 +5,6 @@
 --     line-held                          so a text has room for it
 --     line-put                           asking for a line is putting it into the room
 --     line-told                          no more bytes are told than there is room
---     line-only                          two answers with rooms that the promise allows are equal
 -- Assumes nothing.
 use mathlib.Core.Path.{_≡_, refl, sym, ap, _∙_}
 use mathlib.Core.List.{List, []}
@@ -29,7 +28,7 @@ use Rattle.answers.specs.declared.refusal.Refusal.{Refusal}
 use Rattle.answers.specs.Refusal.{positionOf, sentOf}
 use Rattle.answers.specs.Reasons.{firstReason}
 use Rattle.answers.specs.Outcome.{Outcome, outcomeOf, ended, written}
-use Rattle.answers.proofs.Laws.Outcome.{outcome-only, ended-refused, ended-done, written-told}
+use Rattle.answers.proofs.Laws.Outcome.{ended-refused, ended-done, written-told}
 use Rattle.answers.proofs.Laws.Reasons.{Each, first-each, none-iff}
 use Rattle.lists.specs.Records.{recordsIn, rowsOf, firstBad, firstRepeat}
 use Rattle.trees.specs.Result.{Result}
@@ -39,9 +38,10 @@ use Rattle.texts.specs.declared.text.Text.{Text}
 use Rattle.texts.specs.Text.{holding, withBytes}
 use Rattle.texts.proofs.Laws.{text-held}
 use Rattle.kept.specs.declared.table.Table.{Table}
-use Rattle.kept.specs.View.{rowAt, resultAt, entryAt, clustersIn, tableOf, zeroTable}
+use Rattle.kept.specs.View.{rowAt, resultAt, clustersIn, tableOf, zeroTable}
 use Rattle.kept.specs.Rows.{leafSet}
-use Rattle.kept.proofs.Laws.Fit.{FitRow, isFit→, fit→}
+use Rattle.kept.specs.Facts.{FitRow}
+use Rattle.kept.proofs.Laws.Fit.{isFit→}
 use Rattle.table.specs.Build.{buildReasons, buildTable}
 use Rattle.table.proofs.Laws.Build.{build-of}
 use Rattle.members.specs.Draw.{leafRow, membersOf, drawReasons}
@@ -60,7 +60,7 @@ module _ {t : Table} (d : Drawable narrow t) where
   leaf = resultAt t (leafRow t)
 
   leaf-row : FitRow narrow (clustersIn t) (rowAt t (leafRow t)) leaf
-  leaf-row = fit→ narrow (clustersIn t) (entryAt t (leafRow t)) (isFit→ narrow narrow-facts t (d .fit) .fit (leafRow t) (d .row))
+  leaf-row = isFit→ narrow narrow-facts t (d .fit) .fit (leafRow t) (d .row)
 
   tree-best-le : natAbs (leaf .best) ≤ bestMax
   tree-best-le =
@@ -185,6 +185,3 @@ module _ (l : List ℕ) (d : ℕ) (room : List ℕ) where
   line-told {a} {n} {m} e r =
       let q = written-told [] (lineOf l d) room n m (ap (λ (b : Answer). outcomeOf b m) (sym r) ∙ e ∙ sym line-put) in
       omega (arith, q .0, q .1)
-
-  pub line-only : (a b : Answer) (x y : List ℕ) → outcomeOf a x ≡ lineInto l d room → outcomeOf b y ≡ lineInto l d room → (a ≡ b) × (x ≡ y)
-  line-only = outcome-only

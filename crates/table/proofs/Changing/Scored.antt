@@ -9,7 +9,7 @@ use mathlib.Core.Path.{_≡_, sym, ap, ap₂, _∙_, subst}
 use mathlib.Core.Logic.{_≢_}
 use mathlib.Core.Bool.{Bool, true, false, cond}
 use mathlib.Core.List.{List, map}
-use Prim.Native.Nat.{ℕ, _-_, _≤_, _<_}
+use Prim.Native.Nat.{ℕ, _≤_, _<_}
 use native.Mathlib.Decide.{decLt, ℕ-discrete}
 use native.Mathlib.Omega.{arith}
 use borrow.Author.Tests.{eq-eqb, ne-eqb, lt-ltb, le-ltb}
@@ -23,6 +23,7 @@ use Rattle.laws.specs.Widths.{WidthFacts}
 use Rattle.laws.proofs.Cluster.{inside-refl}
 use Rattle.laws.proofs.Down.{down-ext, down-map}
 use Rattle.cluster.specs.Rule.{isScore, keepsRules}
+use Rattle.cluster.proofs.Laws.Rule.{→rules}
 use Rattle.trees.specs.Rows.{Entry}
 use Rattle.trees.specs.Result.{Result}
 use Rattle.trees.specs.Rescored.{workedOut, again}
@@ -32,7 +33,8 @@ use Rattle.kept.specs.Fit.{fitEntry, isFit}
 use Rattle.kept.specs.Rows.{placeOf, hasRow}
 use Rattle.kept.specs.Arrays.{Sized}
 use Rattle.kept.specs.Blank.{isEmpty}
-use Rattle.kept.proofs.Laws.Fit.{FitTable, isFit→, fit-rules}
+use Rattle.kept.specs.Facts.{FitTable}
+use Rattle.kept.proofs.Laws.Fit.{isFit→, →fit}
 use Rattle.kept.proofs.Laws.Clusters.{clusters-are}
 use Rattle.kept.proofs.Laws.Rows.{hasRow-is, placeOf-at}
 use Rattle.table.specs.Rescore.{newTable}
@@ -147,7 +149,7 @@ module _ (W : Width) (facts : WidthFacts W) (t : Table) (c : ℕ) (z : ℤ) (s :
   score-rules : T (isScore z s) → (j : ℕ) → j < t .rows → T (keepsRules W (rowAt new j))
   score-rules k j h =
       subst (λ (e : Entry Result). T (keepsRules W (e .row))) (sym (score-entry j h))
-      (put-rules W c z s k (rowAt t j) (fit-rules W (clustersIn t) (entryAt t j) (known .fit j h)))
+      (put-rules W c z s k (rowAt t j) (→rules W (rowAt t j) (known .fit j h .width) (known .fit j h .rules)))
 
   -- a row that doesn't contain c isn't the row of c
   score-fit : (j : ℕ) → j < t .rows → (T (inside c (getD (t .clusters) j 0)) → ⊥) → T (fitEntry W (clustersIn new) (entryAt new j))
@@ -155,7 +157,8 @@ module _ (W : Width) (facts : WidthFacts W) (t : Table) (c : ℕ) (z : ℤ) (s :
       let at : j ≡ i → getD (t .clusters) j 0 ≡ c = λ e. ap (λ (m : ℕ). getD (t .clusters) m 0) e ∙ found in
       let other : j ≢ i = λ e. n (subst (λ (x : ℕ). T (inside c x)) (sym (at e)) (inside-refl c)) in
       subst (λ (cs : List ℕ). T (fitEntry W cs (entryAt new j))) (sym score-clusters)
-      (subst (λ (e : Entry Result). T (fitEntry W (clustersIn t) e)) (sym (score-other t i z s j other)) (known .fit j h))
+      (subst (λ (e : Entry Result). T (fitEntry W (clustersIn t) e)) (sym (score-other t i z s j other))
+      (→fit W (clustersIn t) (entryAt t j) (known .fit j h)))
 
   new-workable : T (isScore z s) → WordsIn (t .«members_low») (t .rows) → Workable W new c
   new-workable k words = record {

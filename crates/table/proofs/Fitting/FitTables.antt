@@ -33,11 +33,11 @@ use Rattle.trees.specs.Rescored.{putScore, workedOut, again, rescored}
 use Rattle.trees.proofs.Rescore.{put-cluster, put-other, again-clusters}
 use Rattle.kept.specs.declared.table.Table.{Table}
 use Rattle.kept.specs.Arrays.{Bounded}
-use Rattle.kept.specs.View.{entryAt, entriesOf, tableOf}
+use Rattle.kept.specs.View.{entryAt, entriesOf, clustersIn, tableOf}
 use Rattle.kept.specs.Fit.{fitEntry, isFit}
 use Rattle.table.specs.Rescore.{newTable}
 use Rattle.table.proofs.Fitting.AgainFit.{Listed, again-fit}
-use Rattle.kept.proofs.Laws.Fit.{fit-rules, isFit→, →isFit, fit-falls, fit-each, entries-rising}
+use Rattle.kept.proofs.Laws.Fit.{fit-rules, fit→, isFit→, →isFit, fit-falls, fit-each, entries-rising}
 use Rattle.kept.proofs.Laws.Blank.{blank→empty}
 use Rattle.kept.proofs.Laws.View.{entries-table, table-past}
 use Rattle.laws.proofs.Width.{degree-range}
@@ -74,8 +74,8 @@ pub table-fit : (W : Width) (d : ℕ) (es : List (Entry Result)) → FitRows W d
 table-fit W d es f = →isFit W t (record {
   bounds = f .bounds;
   rising = entries-rising t (rw (entries-table d es) (f .falls));
-  fit = λ i l. rw (entries-table d es)
-      (f .each (entryAt t i) (subst (Mem (entryAt t i)) (entries-table d es) (down-mem (entryAt t) (length es) i l)));
+  fit = λ i l. fit→ W (clustersIn t) (entryAt t i) (rw (entries-table d es)
+      (f .each (entryAt t i) (subst (Mem (entryAt t i)) (entries-table d es) (down-mem (entryAt t) (length es) i l))));
   blank = λ i l m. blank→empty t i (table-past d es i l);
 })
   where

@@ -44,7 +44,7 @@ use Rattle.trees.proofs.Counting.Worked.{markIn, lengthIf, trueResult, AllCount
 use Rattle.kept.specs.Fit.{fitEntry}
 use Rattle.kept.specs.Marks.{isMarkedIn}
 use Rattle.kept.specs.Blank.{isBlank}
-use Rattle.kept.proofs.Laws.Results.{Ranged, Matched}
+use Rattle.kept.specs.Facts.{Ranged, Matched}
 use Rattle.kept.proofs.Laws.Fit.{→fit}
 use Rattle.table.specs.Searched.{GoodRow}
 use Rattle.table.specs.Tally.{decoded}

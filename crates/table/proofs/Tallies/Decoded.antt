@@ -29,7 +29,8 @@ use Rattle.trees.specs.Solution.{Sol, Res}
 use Rattle.trees.proofs.Counting.Capped.{encode, encodeSol, count-small, count-large}
 use Rattle.kept.specs.Fit.{fitEntry}
 use Rattle.kept.specs.Marks.{isMarkedIn}
-use Rattle.kept.proofs.Laws.Results.{Matched, matched→, →matched}
+use Rattle.kept.specs.Facts.{Matched}
+use Rattle.kept.proofs.Laws.Results.{matched→, →matched}
 use Rattle.kept.proofs.Laws.Fit.{fit→}
 use Rattle.table.specs.Tally.{tallyWith, tallyOf, fieldsTally, decoded}
 use Rattle.table.specs.Searched.{GoodRow}

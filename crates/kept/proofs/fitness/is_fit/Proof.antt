@@ -11,7 +11,8 @@ use Rattle.laws.proofs.Tests.{true-T, passed, failed}
 use Rattle.laws.proofs.Width.{narrow-facts, degree-range, degree-of}
 use Rattle.kept.specs.Fit.{isRising}
 use Rattle.kept.proofs.Laws.Clusters.{isRising→, →isRising}
-use Rattle.kept.proofs.Laws.Fit.{FitTable, unfit, fit-rows}
+use Rattle.kept.specs.Facts.{FitTable}
+use Rattle.kept.proofs.Laws.Fit.{unfit, fit-rows}
 use Rattle.kept.proofs.fitness.is_fit.Statement.{statement}
 use Rattle.kept.proofs.fitness.is_fit.Tie as tie
 

@@ -1,0 +1,64 @@
+-- What a fit table is, as facts: a sentence of the rules for each field (RULES 6). That `isFit` tests just these: `isFit→` and `→isFit` in
+-- `proofs/Laws/Fit.antt`.
+--     Ranged W r v     the ranges of a row's results
+--     Matched cs r v   what its count says of its marks and its best weight, cs being the clusters of all rows, the largest first
+--     FitRow W cs r v  a row and its results
+--     FitTable W t     the table
+-- Assumes nothing.
+use mathlib.Core.Path.{_≡_}
+use mathlib.Core.Logic.{_⊎_, _≢_}
+use mathlib.Core.Bool.{false}
+use mathlib.Core.List.{List}
+use Prim.Native.Nat.{ℕ, _-_, _*_, _^_, _≤_, _<_}
+use lib.Dec.{T}
+use lib.IntN.{pos, natAbs}
+use lib.ListN.{length}
+use Rattle.laws.specs.Cluster.{inside, size, single}
+use Rattle.laws.specs.Limits.{Width, weightMax, rowCap}
+use Rattle.laws.specs.Row.{Row, isScored}
+use Rattle.cluster.specs.Rule.{Keeps}
+use Rattle.trees.specs.Result.{Result}
+use Rattle.kept.specs.declared.table.Table.{Table}
+use Rattle.kept.specs.Arrays.{Bounded}
+use Rattle.kept.specs.View.{rowAt, resultAt, entryAt, clustersIn}
+use Rattle.kept.specs.Blank.{isBlank, isEmpty}
+use Rattle.kept.specs.Marks.{everyMarked, isMarkedIn}
+
+-- ---- a row
+
+pub record Ranged (W : Width) (r : Row) (v : Result) : Type 0 where
+  pub tuples : v .length ≤ W .lengthMax
+  pub counted : v .count ≤ W .countMax
+  -- a mark is 0, or 1 beside a count of the limit
+  pub marked : (v .mark ≡ 0) ⊎ ((v .mark ≡ 1) × (v .count ≡ W .countMax))
+  -- a single taxon has no row length, and an unscored row no result
+  pub taxon : T (single (r .cluster)) → v .length ≡ 0
+  pub unscored : (T (isScored r) → ⊥) → T (isBlank v)
+
+pub record Matched (cs : List ℕ) (r : Row) (v : Result) : Type 0 where
+  -- no mark stands past the rows
+  pub below : v .members < 2 ^ length cs
+  -- count zero: no member is marked, and mark and best weight are zero
+  pub none : v .count ≡ 0 → (v .members ≡ 0) × (v .mark ≡ 0) × (v .best ≡ pos 0)
+  -- else the row itself is marked, every marked row's cluster lies inside it, and the best weight is one that a tree on so many taxa can have
+  pub own : v .count ≢ 0 → T (isMarkedIn cs (v .members) (r .cluster))
+  pub inner : v .count ≢ 0 → T (everyMarked cs (v .members) (λ (c : ℕ). inside c (r .cluster)))
+  pub light : v .count ≢ 0 → natAbs (v .best) ≤ weightMax * (2 * size (r .cluster) - 1)
+
+pub record FitRow (W : Width) (cs : List ℕ) (r : Row) (v : Result) : Type 0 where
+  -- cluster, weight and state by the record rules
+  pub width : r .cluster < 2 ^ W .taxa
+  pub rules : Keeps (r .cluster) (r .weight) (r .state) false
+  pub ranged : Ranged W r v
+  pub matched : Matched cs r v
+
+-- ---- the table
+
+pub record FitTable (W : Width) (t : Table) : Type 0 where
+  -- a degree bound from 3 to 5, and 1 to 128 rows
+  pub bounds : Bounded W (t .degree) (t .rows)
+  -- strictly ascending clusters
+  pub rising : (i j : ℕ) → i < j → j < t .rows → rowAt t i .cluster < rowAt t j .cluster
+  -- each row is fit, and past them all is zero
+  pub fit : (i : ℕ) → i < t .rows → FitRow W (clustersIn t) (rowAt t i) (resultAt t i)
+  pub blank : (i : ℕ) → t .rows ≤ i → i < rowCap → T (isEmpty (entryAt t i))
