@@ -1,5 +1,6 @@
 -- ONE OUTCOME (RULES 12): for each public operation, what its `ensures` says, and that two outcomes which that allows are equal. An
--- operation that writes into a room has its answer and every byte of the room for an outcome. Shown in `proofs/OneOutcome.antt`.
+-- operation that writes into a room has its answer and every byte of the room for an outcome. Shown in `proofs/OneOutcome.antt`; the gate
+-- holds each row against the source (`.ci/promises`).
 --     Only P          two values of which P holds are equal
 --     In o a          an answer with what it was given is the outcome o
 --     OneOutcome      the table, crate by crate
@@ -12,7 +13,7 @@ use lib.IntN.{ℤ}
 use mir.Syntax.{w32, w64}
 use mir.Val.{toZ, ofZ}
 use Rattle.laws.specs.Cluster.{inside, strict, apart, single}
-use Rattle.laws.specs.Cluster as clusters
+use Rattle.laws.specs.Cluster as taxa
 use Rattle.laws.specs.Limits.{narrow, wordValues}
 use Rattle.laws.specs.State.{scored}
 use Rattle.trees.specs.Tree.{isTree}
@@ -60,53 +61,54 @@ pub record OneOutcome : Type 0 where
   pub «is_inside» : (a b : ℕ) → Only (λ (r : Bool). r ≡ inside a b)
   pub «is_strict» : (a b : ℕ) → Only (λ (r : Bool). r ≡ strict a b)
   pub «is_apart» : (a b : ℕ) → Only (λ (r : Bool). r ≡ apart a b)
-  pub size : (c : ℕ) → Only (λ (r : ℕ). r ≡ clusters.size c)
+  pub size : (c : ℕ) → Only (λ (r : ℕ). r ≡ taxa.size c)
   pub «is_single» : (c : ℕ) → Only (λ (r : Bool). r ≡ single c)
-  pub highest : (c : ℕ) → Only (λ (r : ℕ). r ≡ clusters.highest c)
-  pub lowest : (c : ℕ) → Only (λ (r : ℕ). r ≡ clusters.lowest 64 c)
+  pub highest : (c : ℕ) → Only (λ (r : ℕ). r ≡ taxa.highest c)
+  pub lowest : (c : ℕ) → Only (λ (r : ℕ). r ≡ taxa.lowest 64 c)
   -- signed
   pub «signed_of» : (n : ℕ) → Only (λ (z : ℤ). z ≡ toZ w32 n)
   pub «unsigned_of» : (z : ℤ) → Only (λ (n : ℕ). n ≡ ofZ w32 z)
   pub «signed_long_of» : (n : ℕ) → Only (λ (z : ℤ). z ≡ toZ w64 n)
   pub «unsigned_long_of» : (z : ℤ) → Only (λ (n : ℕ). n ≡ ofZ w64 z)
   -- answers
-  pub «number_of» : (f : Refusal) → Only (λ (n : ℕ). n ≡ numberOf f)
-  pub «position_of» : (f : Refusal) → Only (λ (n : ℕ). n ≡ positionOf f)
+  pub «number_of» : (refusal : Refusal) → Only (λ (n : ℕ). n ≡ numberOf refusal)
+  pub «position_of» : (refusal : Refusal) → Only (λ (n : ℕ). n ≡ positionOf refusal)
   -- cluster
-  pub «is_scored» : (s : ℕ) → Only (λ (r : Bool). r ≡ scored s)
-  pub «broken_rule» : (c : ℕ) (z : ℤ) (s : ℕ) (spare : Bool) → Only (λ (u : Rule). u ≡ brokenRule c z s spare)
-  pub «is_score» : (z : ℤ) (s : ℕ) → Only (λ (b : Bool). b ≡ isScore z s)
-  pub «is_kept» : (u : Rule) → Only (λ (b : Bool). b ≡ isKept u)
-  pub «read_record» : (l : List ℕ) → Only (λ (r : Reading). readingOf r ≡ readRecord l)
+  pub «is_scored» : (state : ℕ) → Only (λ (r : Bool). r ≡ scored state)
+  pub «broken_rule» : (cluster : ℕ) (weight : ℤ) (state : ℕ) (spare : Bool)
+      → Only (λ (rule : Rule). rule ≡ brokenRule cluster weight state spare)
+  pub «is_score» : (weight : ℤ) (state : ℕ) → Only (λ (b : Bool). b ≡ isScore weight state)
+  pub «is_kept» : (rule : Rule) → Only (λ (b : Bool). b ≡ isKept rule)
+  pub «read_record» : (bytes : List ℕ) → Only (λ (r : Reading). readingOf r ≡ readRecord bytes)
   pub «write_record» : (r : Record) (room : List ℕ) → Only (In (writeRecord r room))
   -- lists
-  pub «read_list» : (l : List ℕ) → Only (λ (r : Listing). listingOf r ≡ readList narrow l)
-  pub «check_list» : (l : List ℕ) → Only (λ (a : Answer). sentOf a ≡ readList narrow l .sent)
+  pub «read_list» : (list : List ℕ) → Only (λ (r : Listing). listingOf r ≡ readList narrow list)
+  pub «check_list» : (list : List ℕ) → Only (λ (a : Answer). sentOf a ≡ readList narrow list .sent)
   -- kept
   pub «zero_table» : Only (λ (t : Table). t ≡ zeroTable)
   pub «is_fit» : (t : Table) → Only (λ (b : Bool). b ≡ isFit narrow t)
-  pub «place_of» : (t : Table) (c : ℕ) → Only (λ (i : ℕ). i ≡ placeOf t c)
+  pub «place_of» : (t : Table) (cluster : ℕ) → Only (λ (i : ℕ). i ≡ placeOf t cluster)
   pub «leaf_set» : (t : Table) → Only (λ (c : ℕ). c ≡ leafSet t)
   pub «is_marked» : (low high i : ℕ) → Only (λ (b : Bool). b ≡ hasMark (low + wordValues * high) i)
   -- members
-  pub «is_tree» : (xs : List ℕ) (C d : ℕ) → Only (λ (r : Bool). r ≡ isTree (narrow .taxa) d C xs)
+  pub «is_tree» : (clusters : List ℕ) (top degree : ℕ) → Only (λ (r : Bool). r ≡ isTree (narrow .taxa) degree top clusters)
   pub «drawn_tree» : (t : Table) → Only (λ (r : Drawn). drawnOf r ≡ drawnTree narrow t)
   -- table
-  pub build : (l : List ℕ) (d : ℕ) → Only (λ (b : Built). outcomeOf (b .answer) (b .table) ≡ buildTable narrow l d)
-  pub rescore : (t : Table) (c : ℕ) (z : ℤ) (s : ℕ)
-      → Only (λ (r : Rescored). outcomeOf (r .answer) (r .table) ≡ rescoreTable narrow t c z s)
+  pub build : (list : List ℕ) (degree : ℕ) → Only (λ (b : Built). outcomeOf (b .answer) (b .table) ≡ buildTable narrow list degree)
+  pub rescore : (given : Table) (cluster : ℕ) (weight : ℤ) (state : ℕ)
+      → Only (λ (r : Rescored). outcomeOf (r .answer) (r .table) ≡ rescoreTable narrow given cluster weight state)
   -- texts
   pub empty : Only (λ (r : Text). r ≡ holding [])
-  pub add : (t : Text) (bytes : List ℕ) → Only (λ (r : Text). r ≡ withBytes t bytes)
-  pub «add_decimal» : (t : Text) (n : ℕ) → Only (λ (r : Text). r ≡ withBytes t (decimal n))
+  pub add : (text : Text) (bytes : List ℕ) → Only (λ (r : Text). r ≡ withBytes text bytes)
+  pub «add_decimal» : (text : Text) (n : ℕ) → Only (λ (r : Text). r ≡ withBytes text (decimal n))
   pub put : (bytes room : List ℕ) → Only (In (written [] bytes room))
   -- drawing
   pub tree : (t : Table) (room : List ℕ) → Only (In (drawTree narrow t room))
   pub «drawn_text» : (t : Table) → Only (λ (r : DrawnText). drawnTextOf r ≡ drawnText narrow t)
   pub text : (t : Table) (room : List ℕ) → Only (In (drawText narrow t room))
   -- report
-  pub line : (l : List ℕ) (d : ℕ) (room : List ℕ) → Only (In (lineInto l d room))
+  pub line : (list : List ℕ) (degree : ℕ) (room : List ℕ) → Only (In (lineInto list degree room))
   -- digests
-  pub «ladlepine_build» : (l : List ℕ) (d : ℕ) → Only (λ (n : ℕ). n ≡ digest (buildTable narrow l d .given))
-  pub «ladlepine_rescore» : (l : List ℕ) (d c : ℕ) (z : ℤ) (s times : ℕ)
-      → Only (λ (n : ℕ). n ≡ digest (rescoredTimes times c z s (buildTable narrow l d .given)))
+  pub «ladlepine_build» : (list : List ℕ) (degree : ℕ) → Only (λ (r : ℕ). r ≡ digest (buildTable narrow list degree .given))
+  pub «ladlepine_rescore» : (list : List ℕ) (degree cluster : ℕ) (weight : ℤ) (state times : ℕ)
+      → Only (λ (r : ℕ). r ≡ digest (rescoredTimes times cluster weight state (buildTable narrow list degree .given)))
