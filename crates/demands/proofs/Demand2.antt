@@ -10,6 +10,8 @@ use Rattle.laws.specs.Limits.{Width, narrow, isDegree}
 use Rattle.laws.specs.Row.{Row}
 use Rattle.laws.specs.Widths.{WidthFacts}
 use Rattle.laws.proofs.Width.{narrow-facts}
+use Rattle.cluster.specs.Record.{rowIn}
+use Rattle.cluster.proofs.Laws.Rule.{→rules}
 use Rattle.cluster.proofs.Theorems.{read-write-back, write-read-back}
 use Rattle.lists.specs.Records.{rowsOf}
 use Rattle.kept.specs.declared.table.Table.{Table}
@@ -34,7 +36,10 @@ module _ {W : Width} (facts : WidthFacts W) (l : List ℕ) (d : ℕ) (degree : T
       subst (P m) (sym (fresh facts d degree xs a ∙ built-table W m d degree (b .accepted))) (f m (buildable facts degree (b .byte) (b .accepted)))
 
 round-trips : RoundTrips
-round-trips = record { written-read = read-write-back; read-written = write-read-back }
+round-trips = record {
+  written-read = λ r room small kept. read-write-back r room (→rules narrow (rowIn r) small kept);
+  read-written = write-read-back;
+}
 
 pub demand2 : Demand2
 demand2 = record {

@@ -20,6 +20,7 @@ use lib.IntN.{ℤ}
 use lib.ListN.{length, take, drop}
 use Rattle.laws.specs.Cluster.{inside}
 use Rattle.laws.specs.Limits.{Width, narrow, rowCap}
+use Rattle.laws.specs.Lists.{Once, Same}
 use Rattle.laws.specs.Row.{Row}
 use Rattle.trees.specs.Heaviest.{weightOf, tieFirst}
 use Rattle.trees.specs.Built.{rowLength}
@@ -32,8 +33,8 @@ use Rattle.shapes.specs.Drawn.{ascending}
 use Rattle.answers.specs.declared.refusal.Answer.the-variants.{Done}
 use Rattle.answers.specs.Outcome.{outcomeOf, written}
 use Rattle.cluster.specs.declared.record.Record.{Record}
-use Rattle.cluster.specs.Record.{recordBytes, rowIn}
-use Rattle.cluster.specs.Rule.{KeepsScore, keepsRules}
+use Rattle.cluster.specs.Record.{recordBytes}
+use Rattle.cluster.specs.Rule.{KeepsScore}
 use Rattle.cluster.specs.Reading.{zeroRecord, readRecord}
 use Rattle.cluster.specs.Writing.{writeRecord}
 use Rattle.lists.specs.Records.{rowsOf}
@@ -110,7 +111,10 @@ module _ (W : Width) (d : ℕ) (l : List ℕ) where
     pub record RowsTell : Type 0 where
       -- there is a row for each record, and no other
       pub listed : (r : Row) → ((i : ℕ) × (i < t .rows) × (rowAt t i ≡ r)) ↔ Mem r rows
-      -- each tells the trees on its cluster, and how many tuples it has
+      -- no tree is counted twice: none stands in the list of trees twice, nor as another list of the same clusters
+      pub once : (C : ℕ) → Once (treesAt W d l C)
+      pub sets : (C : ℕ) (xs ys : List ℕ) → Mem xs (treesAt W d l C) → Mem ys (treesAt W d l C) → Same xs ys → xs ≡ ys
+      -- each row tells the trees on its cluster, and how many tuples it has
       pub each : (i : ℕ) → i < t .rows → TellsTrees W rows (treesAt W d l (rowAt t i .cluster)) (resultAt t i)
       pub lengths : (i : ℕ) → i < t .rows → resultAt t i .length ≡ rowLength d rows (rowAt t i)
       -- the leaf set's tells those of the list; where it has none, the list has no tree
@@ -155,7 +159,7 @@ pub record Prints (d : ℕ) (l : List ℕ) : Type 0 where
 
 pub record RoundTrips : Type 0 where
   -- what is written, read again, is the record
-  pub written-read : (r : Record) (room : List ℕ) → T (keepsRules narrow (rowIn r)) → recordBytes ≤ length room
+  pub written-read : (r : Record) (room : List ℕ) → r .cluster < 2 ^ narrow .taxa → Kept r → recordBytes ≤ length room
       → readRecord (take recordBytes (writeRecord r room .given)) ≡ outcomeOf (Done 0) r
   -- what is read, written again, is the bytes
   pub read-written : (l room : List ℕ) → Bytes l → readRecord l .sent .number ≡ 0 → recordBytes ≤ length room

@@ -4,20 +4,28 @@
 use mathlib.Core.Path.{_≡_, refl, sym, subst}
 use mathlib.Core.Logic.{_↔_}
 use mathlib.Core.Option.{Option, none, some}
-use mathlib.Core.List.{List}
+use mathlib.Core.List.{List, map-id}
 use mathlib.Core.List.{List·Memᴰ as Mem}
 use Prim.Native.Nat.{ℕ, _<_}
 use lib.ListN.{length}
 use Rattle.laws.specs.Limits.{Width}
+use Rattle.laws.specs.Lists.{sublists, Once, Same}
 use Rattle.laws.specs.Orders.{downTo}
 use Rattle.laws.specs.Row.{Row}
 use Rattle.laws.specs.Widths.{WidthFacts}
 use Rattle.laws.proofs.Down.{down-mem, mem-down}
+use Rattle.laws.proofs.Falling.{sublist-only}
 use Rattle.laws.proofs.Keep.{nil-of-none}
-use Rattle.trees.specs.Rows.{Entry}
+use Rattle.laws.proofs.Once.{once-keep}
+use Rattle.laws.proofs.Sublists.{sublists-once}
+use Rattle.trees.specs.Rows.{scoredIn, Entry}
+use Rattle.trees.specs.Tree.{isTree, treesOn}
 use Rattle.trees.specs.Heaviest.{firstHeaviest}
 use Rattle.trees.specs.Result.{Result, countField, markField}
 use Rattle.trees.specs.Built.{rowLength, withBest, treeResult, builtResult}
+use Rattle.trees.proofs.Formula.Rows.{givenOf}
+use Rattle.trees.proofs.Joined.TreeTest.{tree-of}
+use Rattle.trees.proofs.Sets.TreeFacts.{Given}
 use Rattle.lists.specs.Records.{rowsOf}
 use Rattle.kept.specs.declared.table.Table.{Table}
 use Rattle.kept.specs.View.{rowAt, resultAt}
@@ -47,6 +55,19 @@ module _ (W : Width) (facts : WidthFacts W) (d : ℕ) (l : List ℕ) (k : Builda
     λ m. let q = mem-down (rowAt t) (t .rows) r (subst (Mem r) (sym (rows-are W facts d rs k)) m) in (q .0, q .1, sym (q .2)),
   )
 
+  -- sets of the scored clusters, which don't repeat
+  abbrev given : Given
+  given = givenOf (W .taxa) d rs (k .facts)
+
+  trees-once : (C : ℕ) → Once (treesAt W d l C)
+  unfolding treesOn
+  trees-once C = once-keep (isTree (W .taxa) d C) (sublists (scoredIn rs)) (sublists-once (scoredIn rs) (given .once))
+
+  trees-sets : (C : ℕ) (xs ys : List ℕ) → Mem xs (treesAt W d l C) → Mem ys (treesAt W d l C) → Same xs ys → xs ≡ ys
+  trees-sets C xs ys m n same =
+      sublist-only (λ (c : ℕ). c) (scoredIn rs) (rw (map-id (scoredIn rs)) (given .once)) xs ys (tree-of given C xs m .0)
+      (tree-of given C ys n .0) (λ c i. rw (map-id ys) (same .to c i)) (λ c i. rw (map-id xs) (same .from c i))
+
   row-tells : (r : Row) → TellsTrees W rs (treesAt W d l (r .cluster)) (builtResult W d rs r)
   row-tells r = tells W rs (rowLength d rs r) (treesAt W d l (r .cluster)) (→found (W .taxa) d rs (k .facts) (r .cluster))
 
@@ -61,6 +82,8 @@ module _ (W : Width) (facts : WidthFacts W) (d : ℕ) (l : List ℕ) (k : Builda
   pub rows-tell : RowsTell W d l (builtFrom W d (rowsOf W l))
   rows-tell = record {
     listed = listed;
+    once = trees-once;
+    sets = trees-sets;
     each = each-row (λ r v. TellsTrees W rs (treesAt W d l (r .cluster)) v) row-tells;
     lengths = each-row (λ r v. v .length ≡ rowLength d rs r) (λ r. row-length (rowLength d rs r) (treesAt W d l (r .cluster)));
     leaves = leaf-set-is W facts d rs k;
