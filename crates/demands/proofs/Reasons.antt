@@ -14,7 +14,7 @@ use Prim.Native.Nat.{ℕ, _%_, _≤_, _<_}
 use native.Mathlib.Decide.{decLe}
 use native.Mathlib.Nat.{le-trans}
 use native.Mathlib.Omega.{arith}
-use lib.Dec.{T, eqb, ltb, eqb→eq, ltb→lt, T-not}
+use lib.Dec.{T, eqb, ltb, eqb→eq, ltb→lt}
 use lib.IntN.{ℤ}
 use lib.ListN.{length, getD}
 use Rattle.laws.specs.Limits.{Width, narrow, rowCap, isDegree}
@@ -23,7 +23,7 @@ use Rattle.laws.specs.Row.{isScored}
 use Rattle.laws.specs.Widths.{WidthFacts}
 use Rattle.laws.proofs.Down.{elem-down-iff}
 use Rattle.laws.proofs.Keep.{every→, →every}
-use Rattle.laws.proofs.Tests.{T-and, and-T, T-of-not, true-T, eq→eqb}
+use Rattle.laws.proofs.Tests.{T-and, and-T, true-T, eq→eqb}
 use Rattle.laws.proofs.Width.{degree-range, degree-of}
 use Rattle.trees.specs.Tree.{isTree}
 use Rattle.answers.specs.declared.refusal.Refusal.the-variants.{NoBytes, WrongLength, TooLong, DegreeOut, BadRecord, Repeated}
