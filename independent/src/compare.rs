@@ -67,7 +67,7 @@ pub fn expected(case: &Case, variant: Option<Variant>) -> Vec<u8> {
     })
 }
 
-/// `count` cases of every operation.
+/// `count` cases of each operation.
 pub fn run(seed: u64, count: u64, probe: &Path, variant: Option<Variant>) -> io::Result<Outcome> {
     let generator = Generator::new(seed);
     let mut outcome = Outcome::default();

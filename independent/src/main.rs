@@ -1,4 +1,4 @@
-//! The commands: a comparison of COUNT cases of every operation, a replay, a
+//! The commands: a comparison of COUNT cases of each operation, a replay, a
 //! self-check without any program under test, and the outside facts. Holds no
 //! part of the rules.
 
@@ -11,7 +11,7 @@ use independent::variants::{ALL, Variant};
 use independent::{compare, facts, selfcheck};
 
 const USAGE: &str = "usage:
-  run SEED COUNT [PROBE] [--variant NAME]   compare COUNT cases of every operation
+  run SEED COUNT [PROBE] [--variant NAME]   compare COUNT cases of each operation
   run --replay FILE [PROBE]                 ask one written case again
   run --self-check SEED COUNT               what the variants would show; no probe
   run --facts [PROBE]                       outside facts, also asked of a probe

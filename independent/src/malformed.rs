@@ -19,7 +19,7 @@ pub struct Stream {
     pub says: String,
 }
 
-/// One small case of every operation.
+/// One small case of each operation.
 fn one_of_each() -> Vec<Ask> {
     let made = Made { rows: house(), joints: Vec::new(), says: String::new() };
     let table = Box::new(built(3, &made).table);

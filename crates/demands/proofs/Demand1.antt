@@ -40,8 +40,8 @@ use Rattle.drawing.specs.Draw.{drawTree, leafText, noText, textAt, drawnText, d
 use Rattle.report.specs.Words.{refusedLine}
 use Rattle.report.specs.Line.{lineCap, lineFor, tableLine, lineOf, lineInto}
 use Rattle.report.proofs.Laws.Line.{line-length-le, line-put}
-use Rattle.demands.specs.Sending.{nothing, refusal, Answered}
-use Rattle.demands.specs.Refusals.{Degree, RecordKept, Kept, HasRow, Fit, Drawable}
+use Rattle.demands.specs.Sending.{accept, sentBack, Answered}
+use Rattle.demands.specs.Refusals.{Degree, KeepsBytes, KeepsRecord, HasRow, Fit, MayBeDrawn}
 use Rattle.demands.specs.Refusals.{reading, writing, listing, building, rescoring, drawing, intoRoom}
 use Rattle.demands.specs.Demands.{Demand1}
 use Rattle.demands.proofs.Answered.{says-none, says-room, refusal-is, answered, answered-room, answered-given}
@@ -50,12 +50,12 @@ use Rattle.demands.proofs.Reasons.{building-none, fit-iff, row-iff, say
 
 -- ---- records
 
-read-answered : (l : List ℕ) → Answered (readRecord l) (reading l) ((length l ≡ recordBytes) × RecordKept l) zeroRecord
+read-answered : (l : List ℕ) → Answered (readRecord l) (reading l) ((length l ≡ recordBytes) × KeepsBytes l) zeroRecord
 unfolding readRecord
 read-answered l = answered (readReasons l) zeroRecord 0 (recordOf l) (says-reading l) (reading-none l)
 
 write-answered : (r : Record) (room : List ℕ)
-    → Answered (writeRecord r room) (writing r room) (Kept r × (recordBytes ≤ length room)) room
+    → Answered (writeRecord r room) (writing r room) (KeepsRecord r × (recordBytes ≤ length room)) room
 unfolding writeRecord
 write-answered r room =
     let out = bytesOf narrow (rowIn r) in
@@ -112,13 +112,13 @@ rescore-answered t c z s =
     (rescoring-none t c narrow narrow-facts z s)
 
 module _ (t : Table) where
-  drawn-tree-answered : Answered (drawnTree narrow t) (drawing narrow t nothing) (Drawable narrow t) noMembers
+  drawn-tree-answered : Answered (drawnTree narrow t) (drawing narrow t accept) (MayBeDrawn narrow t) noMembers
   unfolding drawnTree
   drawn-tree-answered =
       answered (drawReasons narrow t) noMembers 0 (drawnMembers t)
       (says-drawing narrow narrow-facts t says-none) (drawing-none narrow narrow-facts t)
 
-  drawn-text-answered : Answered (drawnText narrow t) (drawing narrow t nothing) (Drawable narrow t) noText
+  drawn-text-answered : Answered (drawnText narrow t) (drawing narrow t accept) (MayBeDrawn narrow t) noText
   unfolding drawnText
   drawn-text-answered =
       answered (drawReasons narrow t) noText (length (leafText t)) (textAt t)
@@ -126,19 +126,19 @@ module _ (t : Table) where
 
   -- whatever is drawn, into a room
   drawing-answered : (out room : List ℕ) → Answered (written (drawReasons narrow t) out room)
-      (drawing narrow t (intoRoom out room)) (Drawable narrow t × (length out ≤ length room)) room
+      (drawing narrow t (intoRoom out room)) (MayBeDrawn narrow t × (length out ≤ length room)) room
   drawing-answered out room =
       answered-room out room (drawReasons narrow t)
       (says-drawing narrow narrow-facts t (says-room out room)) (drawing-none narrow narrow-facts t)
 
   module _ (room : List ℕ) where
     tree-answered : Answered (drawTree narrow t room) (drawing narrow t (intoRoom (membersOf t) room))
-        (Drawable narrow t × (length (membersOf t) ≤ length room)) room
+        (MayBeDrawn narrow t × (length (membersOf t) ≤ length room)) room
     unfolding drawTree
     tree-answered = drawing-answered (membersOf t) room
 
     text-answered : Answered (drawText narrow t room) (drawing narrow t (intoRoom (leafText t) room))
-        (Drawable narrow t × (length (leafText t) ≤ length room)) room
+        (MayBeDrawn narrow t × (length (leafText t) ≤ length room)) room
     unfolding drawText
     text-answered = drawing-answered (leafText t) room
 
@@ -150,7 +150,7 @@ module _ (l : List ℕ) (d : ℕ) where
   unfolding lineInto
   line-answered room = answered-given (lineOf l d) room
 
-  refused-line : (n p : ℕ) → building narrow l d n p → lineOf l d ≡ refusedLine d (refusal n p)
+  refused-line : (n p : ℕ) → building narrow l d n p → lineOf l d ≡ refusedLine d (sentBack n p)
   unfolding lineOf
   refused-line n p h =
       let k = says-building narrow l d .told n p .1 h in
@@ -159,7 +159,7 @@ module _ (l : List ℕ) (d : ℕ) where
       ∙ ap (λ (s : Sent). refusedLine d s) (refusal-is (k .0) (k .2) (k .3))
 
   line-refused : (n p : ℕ) → building narrow l d n p → (room : List ℕ)
-      → lineInto l d room ≡ written [] (refusedLine d (refusal n p)) room
+      → lineInto l d room ≡ written [] (refusedLine d (sentBack n p)) room
   line-refused n p h room = sym (line-put l d room) ∙ ap (λ (out : List ℕ). written [] out room) (refused-line n p h)
 
   line-enough : (room : List ℕ) → d < 2 ^ 32 → lineCap ≤ length room → lineInto l d room .sent .number ≡ 0

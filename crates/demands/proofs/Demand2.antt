@@ -21,7 +21,7 @@ use Rattle.table.proofs.Changing.Changes.{changes-accepted}
 use Rattle.table.proofs.Laws.Build.{Buildable, buildable}
 use Rattle.table.proofs.Theorems.{built-table}
 use Rattle.drawing.specs.Built.{builtFrom}
-use Rattle.demands.specs.Demands.{RowsTell, Draws, RoundTrips, Demand2}
+use Rattle.demands.specs.Demands.{RowsTell, DrawsTrees, RoundTrips, Demand2}
 use Rattle.demands.proofs.Demand3.{fresh, degree-in}
 use Rattle.demands.proofs.Drawn.Told.{rows-tell}
 use Rattle.demands.proofs.Drawn.Draws.{draws}
@@ -44,7 +44,7 @@ round-trips = record {
 pub demand2 : Demand2
 demand2 = record {
   rows = λ l d xs a q. after-changes narrow-facts l d (degree-in d q) xs a (RowsTell narrow d) (rows-tell narrow narrow-facts d);
-  drawn = λ l d xs a q. after-changes narrow-facts l d (degree-in d q) xs a (Draws narrow d) (draws narrow narrow-facts d);
+  drawn = λ l d xs a q. after-changes narrow-facts l d (degree-in d q) xs a (DrawsTrees narrow d) (draws narrow narrow-facts d);
   printed = λ l d a q. prints l d (degree-in d q) a;
   rooms = (refl, refl, refl);
   records = round-trips;

@@ -54,7 +54,7 @@ use Rattle.table.specs.Build.{buildReasons}
 use Rattle.table.specs.Rescore.{rescoreReasons}
 use Rattle.demands.specs.Sending as words
 use Rattle.demands.specs.Sending.{Sending}
-use Rattle.demands.specs.Refusals.{Degree, RecordKept, Kept, Fit, HasRow, HasTree, MarksTree, Drawable}
+use Rattle.demands.specs.Refusals.{Degree, KeepsBytes, KeepsRecord, Fit, HasRow, HasTree, MarksTree, MayBeDrawn}
 use Rattle.demands.specs.Refusals.{reading, listing, building, rescoring, drawing}
 use Rattle.demands.proofs.Answered.{Says, says-none, says-when, says-at, says-unless, passes-iff}
 
@@ -64,7 +64,7 @@ module _ (l : List ℕ) where
   length-iff : T (eqb (length l) recordBytes) ↔ (length l ≡ recordBytes)
   length-iff = (eqb→eq (length l) recordBytes, eq→eqb (length l) recordBytes)
 
-  bytes-iff : T (isKept (ruleOf narrow l)) ↔ RecordKept l
+  bytes-iff : T (isKept (ruleOf narrow l)) ↔ KeepsBytes l
   bytes-iff = let r = rowOf narrow l in kept-iff (r .cluster) (r .weight) (r .state) (hasSpare narrow l)
 
   pub says-reading : Says (readReasons l) (reading l)
@@ -72,7 +72,7 @@ module _ (l : List ℕ) where
       says-unless (eqb (length l) recordBytes) length-iff WrongLength refl
       (λ _. says-unless (isKept (ruleOf narrow l)) bytes-iff (BadRecord 0) refl (λ _. says-none))
 
-  pub reading-none : NoneApplies (readReasons l) ↔ ((length l ≡ recordBytes) × RecordKept l)
+  pub reading-none : NoneApplies (readReasons l) ↔ ((length l ≡ recordBytes) × KeepsBytes l)
   reading-none =
       let whole = passes-iff (eqb (length l) recordBytes) length-iff in
       let kept = passes-iff (isKept (ruleOf narrow l)) bytes-iff in
@@ -82,13 +82,13 @@ module _ (r : Record) where
   abbrev keeps : Bool
   keeps = isKept (brokenRule (r .cluster) (r .weight) (r .state) false)
 
-  record-iff : T keeps ↔ Kept r
+  record-iff : T keeps ↔ KeepsRecord r
   record-iff = kept-iff (r .cluster) (r .weight) (r .state) false
 
-  pub says-writing : {rs : List Reason} {rest : Sending} → Says rs rest → Says (writeReasons r ++ rs) (words.when 5 (Kept r → ⊥) rest)
+  pub says-writing : {rs : List Reason} {rest : Sending} → Says rs rest → Says (writeReasons r ++ rs) (words.refuse 5 (KeepsRecord r → ⊥) rest)
   says-writing says = says-unless keeps record-iff (BadRecord 0) refl (λ _. says)
 
-  pub writing-none : NoneApplies (writeReasons r) ↔ Kept r
+  pub writing-none : NoneApplies (writeReasons r) ↔ KeepsRecord r
   writing-none = let kept = passes-iff keeps record-iff in (λ k. kept .0 (k .0), λ h. (kept .1 h, tt))
 
 -- ---- lists
@@ -197,10 +197,10 @@ module _ (W : Width) (facts : WidthFacts W) (t : Table) where
       (λ fit. says-unless (hasTree t) (tree-iff fit) NoTree refl
       (λ _. says-unless (isDrawable W t) marks-iff Unfit refl (λ _. says)))
 
-  pub drawing-none : NoneApplies (drawReasons W t) ↔ Drawable W t
+  pub drawing-none : NoneApplies (drawReasons W t) ↔ MayBeDrawn W t
   drawing-none = (to, from)
     where
-      to : NoneApplies (drawReasons W t) → Drawable W t
+      to : NoneApplies (drawReasons W t) → MayBeDrawn W t
       to k =
           let fit = passes-iff (isFit W t) (fit-iff W facts t) .0 (k .0) in record {
             fit = fit;
@@ -208,7 +208,7 @@ module _ (W : Width) (facts : WidthFacts W) (t : Table) where
             marked = passes-iff (isDrawable W t) marks-iff .0 (k .1 .1 .0);
           }
 
-      from : Drawable W t → NoneApplies (drawReasons W t)
+      from : MayBeDrawn W t → NoneApplies (drawReasons W t)
       from h = (
         passes-iff (isFit W t) (fit-iff W facts t) .1 (h .fit),
         (passes-iff (hasTree t) (tree-iff (h .fit)) .1 (h .counted), (passes-iff (isDrawable W t) marks-iff .1 (h .marked), tt)),

@@ -3,7 +3,7 @@
 -- `proofs/Theorems.antt`. Its words: `Sending.antt` and `Refusals.antt` (demand 1), `Trees.antt` (demand 2), `Worked.antt`.
 --     Demand1             every input has its answer: success exactly when, each refusal exactly when, and what then stays
 --     RowsTell W d l t    demand 2, of each row: the table t tells the trees of the list l
---     Draws W d l t       demand 2, of what is drawn of it
+--     DrawsTrees W d l t  demand 2, of what is drawn of it
 --     Prints d l          demand 2, of the printed line
 --     RoundTrips          demand 2, of records
 --     Demand2             all of this for every accepted list, changed or not, with its table, rescored or not
@@ -52,10 +52,10 @@ use Rattle.drawing.specs.Built.{listMax}
 use Rattle.drawing.specs.Draw.{drawTree, leafText, noText, drawnText, drawText}
 use Rattle.report.specs.Words.{signed, refusedLine}
 use Rattle.report.specs.Line.{lineCap, lineOf, lineInto}
-use Rattle.demands.specs.Sending.{nothing, refusal, Answered}
-use Rattle.demands.specs.Refusals.{Degree, RecordKept, Kept, HasRow, Fit, Drawable}
+use Rattle.demands.specs.Sending.{accept, sentBack, Answered}
+use Rattle.demands.specs.Refusals.{Degree, KeepsBytes, KeepsRecord, HasRow, Fit, MayBeDrawn}
 use Rattle.demands.specs.Refusals.{reading, writing, listing, building, rescoring, drawing, intoRoom}
-use Rattle.demands.specs.Trees.{leafSetOf, treesAt, treesOf, FirstBy, TellsTrees, ShapeOf, printedCount}
+use Rattle.demands.specs.Trees.{leafSetOf, treesAt, treesOfList, FirstBy, TellsTrees, ShapeOf, printedCount}
 use Rattle.demands.specs.Worked.{WorkedRow}
 use Rattle.demands.specs.OneOutcome.{OneOutcome}
 
@@ -63,9 +63,9 @@ use Rattle.demands.specs.OneOutcome.{OneOutcome}
 
 pub record Demand1 : Type 0 where
   -- records
-  pub read-record : (l : List ℕ) → Answered (readRecord l) (reading l) ((length l ≡ recordBytes) × RecordKept l) zeroRecord
+  pub read-record : (l : List ℕ) → Answered (readRecord l) (reading l) ((length l ≡ recordBytes) × KeepsBytes l) zeroRecord
   pub write-record : (r : Record) (room : List ℕ)
-      → Answered (writeRecord r room) (writing r room) (Kept r × (recordBytes ≤ length room)) room
+      → Answered (writeRecord r room) (writing r room) (KeepsRecord r × (recordBytes ≤ length room)) room
   -- lists
   pub read-list : (l : List ℕ) → Answered (readList narrow l) (listing narrow l) (Accepted narrow l) (listed [])
   pub build : (l : List ℕ) (d : ℕ) → Answered (buildTable narrow l d) (building narrow l d) (Degree d × Accepted narrow l) zeroTable
@@ -78,20 +78,20 @@ pub record Demand1 : Type 0 where
   -- fit tables
   pub rescore : (t : Table) (c : ℕ) (z : ℤ) (s : ℕ)
       → Answered (rescoreTable narrow t c z s) (rescoring narrow t c z s) (Fit narrow t × HasRow t c × KeepsScore z s) t
-  pub drawn-tree : (t : Table) → Answered (drawnTree narrow t) (drawing narrow t nothing) (Drawable narrow t) noMembers
-  pub drawn-text : (t : Table) → Answered (drawnText narrow t) (drawing narrow t nothing) (Drawable narrow t) noText
+  pub drawn-tree : (t : Table) → Answered (drawnTree narrow t) (drawing narrow t accept) (MayBeDrawn narrow t) noMembers
+  pub drawn-text : (t : Table) → Answered (drawnText narrow t) (drawing narrow t accept) (MayBeDrawn narrow t) noText
   -- tables and rooms
   pub tree : (t : Table) (room : List ℕ) → let out = membersOf t in
-      Answered (drawTree narrow t room) (drawing narrow t (intoRoom out room)) (Drawable narrow t × (length out ≤ length room)) room
+      Answered (drawTree narrow t room) (drawing narrow t (intoRoom out room)) (MayBeDrawn narrow t × (length out ≤ length room)) room
   pub text : (t : Table) (room : List ℕ) → let out = leafText t in
-      Answered (drawText narrow t room) (drawing narrow t (intoRoom out room)) (Drawable narrow t × (length out ≤ length room)) room
+      Answered (drawText narrow t room) (drawing narrow t (intoRoom out room)) (MayBeDrawn narrow t × (length out ≤ length room)) room
   -- bytes and rooms
   pub put : (out room : List ℕ) → Answered (written [] out room) (intoRoom out room) (length out ≤ length room) room
   -- a list is never refused by the line, which says why the list is
   pub line : (l : List ℕ) (d : ℕ) (room : List ℕ) → let out = lineOf l d in
       Answered (lineInto l d room) (intoRoom out room) (length out ≤ length room) room
   pub line-refused : (l : List ℕ) (d n p : ℕ) → building narrow l d n p → (room : List ℕ)
-      → lineInto l d room ≡ written [] (refusedLine d (refusal n p)) room
+      → lineInto l d room ≡ written [] (refusedLine d (sentBack n p)) room
   pub line-enough : (l : List ℕ) (d : ℕ) (room : List ℕ) → d < 2 ^ 32 → lineCap ≤ length room → lineInto l d room .sent .number ≡ 0
 
 -- ---- demand 2: the trees of a list are counted, and the first heaviest is drawn
@@ -101,11 +101,11 @@ module _ (W : Width) (d : ℕ) (l : List ℕ) where
   rows = rowsOf W l
 
   abbrev trees : List (List ℕ)
-  trees = treesOf W d l
+  trees = treesOfList W d l
 
   -- the tree that is drawn
-  abbrev pub First : List ℕ → Type 0
-  First ys = FirstBy tieFirst rows trees ys
+  abbrev pub FirstTree : List ℕ → Type 0
+  FirstTree ys = FirstBy tieFirst rows trees ys
 
   module _ (t : Table) where
     pub record RowsTell : Type 0 where
@@ -122,20 +122,20 @@ module _ (W : Width) (d : ℕ) (l : List ℕ) where
       pub leaf : leafRow t < t .rows → TellsTrees W rows trees (resultAt t (leafRow t))
       pub no-leaf : (leafRow t < t .rows → ⊥) → trees ≡ []
 
-    pub record Draws : Type 0 where
+    pub record DrawsTrees : Type 0 where
       -- 7 exactly where there is no tree, and never 8
-      pub no-tree : (room : List ℕ) → (drawTree W t room .sent ≡ refusal 7 0) ↔ (trees ≡ [])
-      pub no-text : (room : List ℕ) → (drawText W t room .sent ≡ refusal 7 0) ↔ (trees ≡ [])
+      pub no-tree : (room : List ℕ) → (drawTree W t room .sent ≡ sentBack 7 0) ↔ (trees ≡ [])
+      pub no-text : (room : List ℕ) → (drawText W t room .sent ≡ sentBack 7 0) ↔ (trees ≡ [])
       pub tree-never : (room : List ℕ) → drawTree W t room .sent .number ≢ 8
       pub text-never : (room : List ℕ) → drawText W t room .sent .number ≢ 8
       -- otherwise there is one tree that none outweighs and that is first of those as heavy
-      pub first : trees ≢ [] → (ys : List ℕ) × First ys
-      pub only : (ys zs : List ℕ) → First ys → First zs → ys ≡ zs
+      pub first : trees ≢ [] → (ys : List ℕ) × FirstTree ys
+      pub only : (ys zs : List ℕ) → FirstTree ys → FirstTree zs → ys ≡ zs
       -- the best weight is its weight; it is written as clusters, ascending; and as the print of its one ordered shape
-      pub best : (ys : List ℕ) → First ys → resultAt t (leafRow t) .best ≡ weightOf rows ys
+      pub best : (ys : List ℕ) → FirstTree ys → resultAt t (leafRow t) .best ≡ weightOf rows ys
       pub tree : (ys : List ℕ) → FirstBy tieFirst rows trees ys → (room : List ℕ) → drawTree W t room ≡ written [] (ascending ys) room
-      pub shape : (ys : List ℕ) → First ys → (s : Shape) × ShapeOf ys s
-      pub shape-only : (ys : List ℕ) → First ys → (s u : Shape) → ShapeOf ys s → ShapeOf ys u → s ≡ u
+      pub shape : (ys : List ℕ) → FirstTree ys → (s : Shape) × ShapeOf ys s
+      pub shape-only : (ys : List ℕ) → FirstTree ys → (s u : Shape) → ShapeOf ys s → ShapeOf ys u → s ≡ u
       pub text : (ys : List ℕ) → FirstBy tieFirst rows trees ys → (s : Shape) → ShapeOf ys s
           → (room : List ℕ) → drawText W t room ≡ written [] (textBytes s) room
       -- rooms that are always enough: two numbers a taxon less one, and as many bytes as a text may have
@@ -143,23 +143,23 @@ module _ (W : Width) (d : ℕ) (l : List ℕ) where
       pub text-enough : (room : List ℕ) → W .textBytes ≤ length room → drawText W t room .sent .number ≢ 11
 
 -- the line of an accepted list, in every room
-abbrev pub Says : ℕ → List ℕ → List ℕ → Type 0
-Says d l bytes = (room : List ℕ) → lineInto l d room ≡ written [] bytes room
+abbrev pub LineIs : ℕ → List ℕ → List ℕ → Type 0
+LineIs d l bytes = (room : List ℕ) → lineInto l d room ≡ written [] bytes room
 
 pub record Prints (d : ℕ) (l : List ℕ) : Type 0 where
-  pub no-tree : Says d l (refusedLine d (refusal 7 0)) ↔ (treesOf narrow d l ≡ [])
-  pub never : Says d l (refusedLine d (refusal 8 0)) → ⊥
+  pub no-tree : LineIs d l (refusedLine d (sentBack 7 0)) ↔ (treesOfList narrow d l ≡ [])
+  pub never : LineIs d l (refusedLine d (sentBack 8 0)) → ⊥
   -- d, the count or `many`, the weight and the text
-  pub line : (ys : List ℕ) → First narrow d l ys → (s : Shape) → ShapeOf ys s → Says d l
+  pub line : (ys : List ℕ) → FirstTree narrow d l ys → (s : Shape) → ShapeOf ys s → LineIs d l
       (decimal d ++ characters " "
-      ++ printedCount narrow (length (treesOf narrow d l)) ++ characters " "
+      ++ printedCount narrow (length (treesOfList narrow d l)) ++ characters " "
       ++ signed (weightOf (rowsOf narrow l) ys) ++ characters " "
       ++ textBytes s ++ characters "\n")
   pub enough : (room : List ℕ) → lineCap ≤ length room → lineInto l d room .sent .number ≢ 11
 
 pub record RoundTrips : Type 0 where
   -- what is written, read again, is the record
-  pub written-read : (r : Record) (room : List ℕ) → r .cluster < 2 ^ narrow .taxa → Kept r → recordBytes ≤ length room
+  pub written-read : (r : Record) (room : List ℕ) → r .cluster < 2 ^ narrow .taxa → KeepsRecord r → recordBytes ≤ length room
       → readRecord (take recordBytes (writeRecord r room .given)) ≡ outcomeOf (Done 0) r
   -- what is read, written again, is the bytes
   pub read-written : (l room : List ℕ) → Bytes l → readRecord l .sent .number ≡ 0 → recordBytes ≤ length room
@@ -169,7 +169,7 @@ pub record Demand2 : Type 0 where
   pub rows : (l : List ℕ) (d : ℕ) (xs : List Row) → AcceptedBytes narrow l → Degree d
       → RowsTell narrow d (changeAll narrow l xs) (rescoreAll narrow (buildTable narrow l d .given) xs)
   pub drawn : (l : List ℕ) (d : ℕ) (xs : List Row) → AcceptedBytes narrow l → Degree d
-      → Draws narrow d (changeAll narrow l xs) (rescoreAll narrow (buildTable narrow l d .given) xs)
+      → DrawsTrees narrow d (changeAll narrow l xs) (rescoreAll narrow (buildTable narrow l d .given) xs)
   pub printed : (l : List ℕ) (d : ℕ) → AcceptedBytes narrow l → Degree d → Prints d l
   pub rooms : (listMax narrow ≡ 63) × (narrow .textBytes ≡ 148) × (lineCap ≡ 172)
   pub records : RoundTrips

@@ -1,7 +1,7 @@
 -- The words of demand 2: the trees of a list, and the one that is drawn (RULES 3, 4 and 9).
 --     leafSetOf W l          the leaf set of a list: the union of all its clusters
 --     treesAt W d l C        the trees on a cluster, of the listed, scored clusters of a list
---     treesOf W d l          the trees of a list: those on its leaf set
+--     treesOfList W d l      the trees of a list: those on its leaf set
 --     FirstBy before rs ts ys     ys is one of the sets ts; none is heavier, rs having the weights; and by `before` it comes before each
 --                            that is as heavy
 --     TellsTrees W rs ts v   the results of a row whose cluster has the trees ts
@@ -38,8 +38,8 @@ leafSetOf W l = leaves (rowsOf W l)
 abbrev pub treesAt : Width → ℕ → List ℕ → ℕ → List (List ℕ)
 treesAt W d l C = treesOn (W .taxa) d (scoredIn (rowsOf W l)) C
 
-abbrev pub treesOf : Width → ℕ → List ℕ → List (List ℕ)
-treesOf W d l = treesAt W d l (leafSetOf W l)
+abbrev pub treesOfList : Width → ℕ → List ℕ → List (List ℕ)
+treesOfList W d l = treesAt W d l (leafSetOf W l)
 
 -- ---- the one that is drawn
 

@@ -2,8 +2,8 @@
 --     rowsIn t                the rows of a table, the largest cluster first
 --     tuplesAt t i            the tuples of row i: of the table's scored rows, as they stand
 --     liveAt t i              those with no zero count
---     setOf cs m              the clusters of the rows marked in m, cs being those of all rows
---     union cs τ              the clusters of the rows marked in one row of the tuple τ or more
+--     markedSet cs m          the clusters of the rows marked in m, cs being those of all rows
+--     joinedSet cs τ          the clusters of the rows marked in one row of the tuple τ or more
 --     sumBests τ              the bests of a tuple's rows added up
 --     Chosen W t i τ          τ is the tuple that row i has its best weight and its members from
 --     Joined W t i            row i of two or more taxa, scored
@@ -41,11 +41,11 @@ tuplesAt t i = tuples (t .degree) (rowAt t i .cluster) (keep sc (entriesOf t (t 
 abbrev pub liveAt : Table → ℕ → List (List Beneath)
 liveAt t i = keep isLive (tuplesAt t i)
 
-abbrev pub setOf : List ℕ → ℕ → List ℕ
-setOf cs m = keep (isMarkedIn cs m) cs
+abbrev pub markedSet : List ℕ → ℕ → List ℕ
+markedSet cs m = keep (isMarkedIn cs m) cs
 
-abbrev pub union : List ℕ → List Beneath → List ℕ
-union cs τ = keep (λ (c : ℕ). any (λ (e : Beneath). isMarkedIn cs (e .val .members) c) τ) cs
+abbrev pub joinedSet : List ℕ → List Beneath → List ℕ
+joinedSet cs τ = keep (λ (c : ℕ). any (λ (e : Beneath). isMarkedIn cs (e .val .members) c) τ) cs
 
 abbrev pub sumBests : List Beneath → ℤ
 sumBests [] = pos 0
@@ -69,9 +69,9 @@ module _ (W : Width) (t : Table) (i : ℕ) where
     pub heaviest : (σ : List Beneath) → Mem σ (liveAt t i) → T (ltZ (sumBests τ) (sumBests σ)) → ⊥
     pub best : result .best ≡ row .weight +ℤ sumBests τ
     -- the row itself and the members of the tuple's rows are the members
-    pub own : (c : ℕ) → Mem c (setOf all (result .members)) ↔ ((c ≡ row .cluster) ⊎ Mem c (union all τ))
+    pub own : (c : ℕ) → Mem c (markedSet all (result .members)) ↔ ((c ≡ row .cluster) ⊎ Mem c (joinedSet all τ))
     -- of two different tuples of that sum, the chosen one's set has the largest cluster that is in exactly one of the two sets
-    pub first : (σ : List Beneath) → Mem σ (liveAt t i) → sumBests σ ≡ sumBests τ → (σ ≡ τ) ⊎ T (tieFirst (union all τ) (union all σ))
+    pub first : (σ : List Beneath) → Mem σ (liveAt t i) → sumBests σ ≡ sumBests τ → (σ ≡ τ) ⊎ T (tieFirst (joinedSet all τ) (joinedSet all σ))
 
   pub record Joined : Type 0 where
     -- marked by a tuple with no zero count and a marked one, or past the limit
@@ -84,5 +84,5 @@ module _ (W : Width) (t : Table) (i : ℕ) where
     pub length : result .length ≡ rowLength (t .degree) (rowsIn t) row
     pub unscored : (T (isScored row) → ⊥) → result ≡ blank
     pub taxon : T (isScored row) → T (single (row .cluster))
-        → (result .count ≡ 1) × (result .mark ≡ 0) × (result .best ≡ row .weight) × (setOf all (result .members) ≡ row .cluster ∷ [])
+        → (result .count ≡ 1) × (result .mark ≡ 0) × (result .best ≡ row .weight) × (markedSet all (result .members) ≡ row .cluster ∷ [])
     pub joined : T (isScored row) → (T (single (row .cluster)) → ⊥) → Joined

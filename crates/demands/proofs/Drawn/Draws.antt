@@ -33,9 +33,9 @@ use Rattle.drawing.specs.Draw.{drawTree, drawText}
 use Rattle.drawing.specs.Built.{builtFrom, listMax}
 use Rattle.drawing.proofs.LeafTree.{first-tree, leaf-best}
 use Rattle.drawing.proofs.DrawnTables.{drawTree-none, drawText-none, drawTree-is, drawText-is, drawTree-fits, drawText-fits}
-use Rattle.demands.specs.Demands.{First, Draws}
-use Rattle.demands.specs.Sending.{refusal}
-use Rattle.demands.specs.Trees.{leafSetOf, treesOf, ShapeOf}
+use Rattle.demands.specs.Demands.{FirstTree, DrawsTrees}
+use Rattle.demands.specs.Sending.{sentBack}
+use Rattle.demands.specs.Trees.{leafSetOf, treesOfList, ShapeOf}
 use Rattle.demands.proofs.Drawn.First.{found→, →found}
 
 -- ---- into a room
@@ -74,15 +74,15 @@ module _ (W : Width) (facts : WidthFacts W) (d : ℕ) (l : List ℕ) (k : Builda
   t = builtFrom W d rs
 
   abbrev trees : List (List ℕ)
-  trees = treesOf W d l
+  trees = treesOfList W d l
 
   abbrev C : ℕ
   C = leafSetOf W l
 
-  found : (ys : List ℕ) → First W d l ys → firstHeaviest rs trees ≡ some ys
+  found : (ys : List ℕ) → FirstTree W d l ys → firstHeaviest rs trees ≡ some ys
   found = →found (W .taxa) d rs (k .facts) C
 
-  pub tree-on : (ys : List ℕ) → First W d l ys → TreeOn ys (leafSetOf W l)
+  pub tree-on : (ys : List ℕ) → FirstTree W d l ys → TreeOn ys (leafSetOf W l)
   tree-on ys f = trees-on (givenOf (W .taxa) d rs (k .facts)) (facts .taxa) C ys (f .tree)
 
   -- either there is no tree, or one is the first heaviest
@@ -95,15 +95,15 @@ module _ (W : Width) (facts : WidthFacts W) (d : ℕ) (l : List ℕ) (k : Builda
 
   -- an outcome that is the refusal of no tree where there is none, and else something put into the room
   module _ (o : Outcome (List ℕ)) (out : List ℕ → List ℕ) (room : List ℕ)
-      (none-there : trees ≡ [] → o .sent ≡ refusal 7 0)
+      (none-there : trees ≡ [] → o .sent ≡ sentBack 7 0)
       (drawn : (ys : List ℕ) → firstHeaviest rs trees ≡ some ys → o ≡ written [] (out ys) room) where
     number-is : (ys : List ℕ) → firstHeaviest rs trees ≡ some ys → o .sent .number ≡ written [] (out ys) room .sent .number
     number-is ys e = ap (λ (x : Outcome (List ℕ)). x .sent .number) (drawn ys e)
 
-    by-seven : (o .sent ≡ refusal 7 0) ↔ (trees ≡ [])
+    by-seven : (o .sent ≡ sentBack 7 0) ↔ (trees ≡ [])
     by-seven = (λ e. go e either, none-there)
       where
-        go : o .sent ≡ refusal 7 0 → (trees ≡ []) ⊎ ((ys : List ℕ) × (firstHeaviest rs trees ≡ some ys)) → trees ≡ []
+        go : o .sent ≡ sentBack 7 0 → (trees ≡ []) ⊎ ((ys : List ℕ) × (firstHeaviest rs trees ≡ some ys)) → trees ≡ []
         go e (inl n) = n
         go e (inr q) =
             absurd (never 7 (omega arith) (omega arith) (out (q .0)) room (sym (number-is (q .0) (q .1)) ∙ ap (λ s. s .number) e))
@@ -128,13 +128,13 @@ module _ (W : Width) (facts : WidthFacts W) (d : ℕ) (l : List ℕ) (k : Builda
   textFor ys = textOf ys C
 
   module _ (room : List ℕ) where
-    tree-none : trees ≡ [] → drawTree W t room .sent ≡ refusal 7 0
+    tree-none : trees ≡ [] → drawTree W t room .sent ≡ sentBack 7 0
     tree-none n = ap (λ (o : Outcome (List ℕ)). o .sent) (drawTree-none W facts d rs k n room)
 
     tree-drawn : (ys : List ℕ) → firstHeaviest rs trees ≡ some ys → drawTree W t room ≡ written [] (ascending ys) room
     tree-drawn ys e = drawTree-is W facts d rs k ys e room
 
-    text-none : trees ≡ [] → drawText W t room .sent ≡ refusal 7 0
+    text-none : trees ≡ [] → drawText W t room .sent ≡ sentBack 7 0
     text-none n = ap (λ (o : Outcome (List ℕ)). o .sent) (drawText-none W facts d rs k n room)
 
     text-drawn : (ys : List ℕ) → firstHeaviest rs trees ≡ some ys → drawText W t room ≡ written [] (textFor ys) room
@@ -148,7 +148,7 @@ module _ (W : Width) (facts : WidthFacts W) (d : ℕ) (l : List ℕ) (k : Builda
     text-enough h = by-eleven (drawText W t room) textFor room text-none text-drawn
         (λ ys e. ap (λ (o : Outcome (List ℕ)). o .sent .number) (drawText-fits W facts d rs k ys e room h))
 
-  pub draws : Draws W d l (builtFrom W d (rowsOf W l))
+  pub draws : DrawsTrees W d l (builtFrom W d (rowsOf W l))
   draws = record {
     no-tree = λ room. by-seven (drawTree W t room) ascending room (tree-none room) (tree-drawn room);
     no-text = λ room. by-seven (drawText W t room) textFor room (text-none room) (text-drawn room);

@@ -54,9 +54,9 @@ use Rattle.report.specs.Words.{signed, countWord, placeWord, refusedLine, treeL
 use Rattle.report.specs.Line.{lineCap, lineFor, tableLine, lineOf, lineInto}
 use Rattle.report.proofs.Laws.Line.{table-refused, built-done, line-length-le, line-put}
 use Rattle.report.proofs.Laws.Words.{countWord-one, countWord-many}
-use Rattle.demands.specs.Demands.{First, Says, Prints}
-use Rattle.demands.specs.Sending.{refusal}
-use Rattle.demands.specs.Trees.{leafSetOf, treesOf, TellsTrees, ShapeOf, printedCount}
+use Rattle.demands.specs.Demands.{FirstTree, LineIs, Prints}
+use Rattle.demands.specs.Sending.{sentBack}
+use Rattle.demands.specs.Trees.{leafSetOf, treesOfList, TellsTrees, ShapeOf, printedCount}
 use Rattle.demands.proofs.Drawn.First.{→found}
 use Rattle.demands.proofs.Drawn.Told.{rows-tell}
 use Rattle.demands.proofs.Drawn.Draws.{shape-is, tree-on}
@@ -114,14 +114,14 @@ refusedRest n p = characters " refused " ++ (decimal n ++ (placeWord n p ++ char
 tree-split : (d c m : ℕ) (best : ℤ) (text : List ℕ) → treeLine d c m best text ≡ decimal d ++ treeRest c m best text
 tree-split d c m best text = simp append-assoc
 
-refused-split : (d n p : ℕ) → refusedLine d (refusal n p) ≡ decimal d ++ refusedRest n p
+refused-split : (d n p : ℕ) → refusedLine d (sentBack n p) ≡ decimal d ++ refusedRest n p
 refused-split d n p = simp append-assoc
 
 rest-same : (d : ℕ) (x y : List ℕ) → decimal d ++ x ≡ decimal d ++ y → x ≡ y
 rest-same d x y e =
     sym (drop-append-seam (decimal d) x) ∙ ap (drop (length (decimal d))) e ∙ drop-append-seam (decimal d) y
 
-pub tree-not-refused : (d c m : ℕ) (best : ℤ) (text : List ℕ) (n p : ℕ) → treeLine d c m best text ≢ refusedLine d (refusal n p)
+pub tree-not-refused : (d c m : ℕ) (best : ℤ) (text : List ℕ) (n p : ℕ) → treeLine d c m best text ≢ refusedLine d (sentBack n p)
 tree-not-refused d c m best text n p e =
     count-start c m (weightOn best text)
     (ap (λ (x : List ℕ). getD x 1 0) (rest-same d (treeRest c m best text) (refusedRest n p)
@@ -131,7 +131,7 @@ tree-not-refused d c m best text n p e =
 figure-at : (n : ℕ) → n < 10 → getD (refusedRest n 0) 9 0 ≡ figure n
 figure-at n h = ap (λ (x : List ℕ). getD (characters " refused " ++ (x ++ (placeWord n 0 ++ characters "\n"))) 9 0) (decimal-one n h)
 
-seven-not-eight : (d : ℕ) → refusedLine d (refusal 7 0) ≢ refusedLine d (refusal 8 0)
+seven-not-eight : (d : ℕ) → refusedLine d (sentBack 7 0) ≢ refusedLine d (sentBack 8 0)
 seven-not-eight d e =
     let same = rest-same d (refusedRest 7 0) (refusedRest 8 0) (sym (refused-split d 7 0) ∙ e ∙ refused-split d 8 0) in
     omega (arith, ap (λ (x : List ℕ). getD x 9 0) same, figure-at 7 (omega arith), figure-at 8 (omega arith))
@@ -162,7 +162,7 @@ module _ (l : List ℕ) (d : ℕ) (degree : T (isDegree d)) (a : AcceptedBytes n
   t = builtFrom narrow d rs
 
   abbrev trees : List (List ℕ)
-  trees = treesOf narrow d l
+  trees = treesOfList narrow d l
 
   k : Buildable narrow d rs
   k = buildable narrow-facts degree (a .byte) (a .accepted)
@@ -174,15 +174,15 @@ module _ (l : List ℕ) (d : ℕ) (degree : T (isDegree d)) (a : AcceptedBytes n
   line-is : tableLine d t ≡ lineOf l d
   line-is = built-done l d built refl
 
-  says : (bytes : List ℕ) → lineOf l d ≡ bytes → Says d l bytes
+  says : (bytes : List ℕ) → lineOf l d ≡ bytes → LineIs d l bytes
   says bytes e room = sym (line-put l d room) ∙ ap (λ (x : List ℕ). written [] x room) e
 
-  said : (bytes : List ℕ) → Says d l bytes → lineOf l d ≡ bytes
+  said : (bytes : List ℕ) → LineIs d l bytes → lineOf l d ≡ bytes
   said bytes f = written-inj (lineOf l d) bytes (λ room. line-put l d room ∙ f room)
 
   -- ---- by whether there is a tree
 
-  none-line : trees ≡ [] → lineOf l d ≡ refusedLine d (refusal 7 0)
+  none-line : trees ≡ [] → lineOf l d ≡ refusedLine d (sentBack 7 0)
   none-line n = sym (table-refused d t (refused-iff narrow narrow-facts d rs k .1 n) ∙ line-is)
 
   abbrev leaf : Result
@@ -194,14 +194,14 @@ module _ (l : List ℕ) (d : ℕ) (degree : T (isDegree d)) (a : AcceptedBytes n
       ∙ ap (λ (o : Option Refusal). lineFor d o (treeLine d (leaf .count) (leaf .mark) (leaf .best) (leafText t)))
       (drawn-iff narrow narrow-facts d rs k .1 n)
 
-  no-tree : lineOf l d ≡ refusedLine d (refusal 7 0) → trees ≡ []
+  no-tree : lineOf l d ≡ refusedLine d (sentBack 7 0) → trees ≡ []
   no-tree e = go (empty-or trees)
     where
       go : (trees ≡ []) ⊎ (trees ≢ []) → trees ≡ []
       go (inl n) = n
       go (inr n) = absurd (tree-not-refused d (leaf .count) (leaf .mark) (leaf .best) (leafText t) 7 0 (sym (some-line n) ∙ e))
 
-  never-eight : lineOf l d ≢ refusedLine d (refusal 8 0)
+  never-eight : lineOf l d ≢ refusedLine d (sentBack 8 0)
   never-eight e = go (empty-or trees)
     where
       go : (trees ≡ []) ⊎ (trees ≢ []) → ⊥
@@ -210,7 +210,7 @@ module _ (l : List ℕ) (d : ℕ) (degree : T (isDegree d)) (a : AcceptedBytes n
 
   -- ---- the line of the first heaviest tree
 
-  module _ (ys : List ℕ) (f : First narrow d l ys) (s : Shape) (p : ShapeOf ys s) where
+  module _ (ys : List ℕ) (f : FirstTree narrow d l ys) (s : Shape) (p : ShapeOf ys s) where
     found : firstHeaviest rs trees ≡ some ys
     found = →found (narrow .taxa) d rs (k .facts) (leafSetOf narrow l) ys f
 
@@ -244,8 +244,8 @@ module _ (l : List ℕ) (d : ℕ) (degree : T (isDegree d)) (a : AcceptedBytes n
 
   pub prints : Prints d l
   prints = record {
-    no-tree = (λ e. no-tree (said (refusedLine d (refusal 7 0)) e), λ n. says (refusedLine d (refusal 7 0)) (none-line n));
-    never = λ e. never-eight (said (refusedLine d (refusal 8 0)) e);
+    no-tree = (λ e. no-tree (said (refusedLine d (sentBack 7 0)) e), λ n. says (refusedLine d (sentBack 7 0)) (none-line n));
+    never = λ e. never-eight (said (refusedLine d (sentBack 8 0)) e);
     line = λ ys f s p. says _ (tree-line ys f s p);
     enough = enough;
   }

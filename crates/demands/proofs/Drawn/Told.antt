@@ -33,7 +33,7 @@ use Rattle.table.proofs.Laws.Build.{Buildable}
 use Rattle.drawing.specs.Built.{builtFrom}
 use Rattle.drawing.proofs.LeafRow.{rows-are, row-at, leaf-set-is, leaf-result, leaf-listed}
 use Rattle.demands.specs.Demands.{RowsTell}
-use Rattle.demands.specs.Trees.{leafSetOf, treesAt, treesOf, TellsTrees}
+use Rattle.demands.specs.Trees.{leafSetOf, treesAt, treesOfList, TellsTrees}
 use Rattle.demands.proofs.Drawn.First.{→found, tells}
 
 module _ (W : Width) (facts : WidthFacts W) (d : ℕ) (l : List ℕ) (k : Buildable W d (rowsOf W l)) where
@@ -88,7 +88,7 @@ module _ (W : Width) (facts : WidthFacts W) (d : ℕ) (l : List ℕ) (k : Builda
     lengths = each-row (λ r v. v .length ≡ rowLength d rs r) (λ r. row-length (rowLength d rs r) (treesAt W d l (r .cluster)));
     leaves = leaf-set-is W facts d rs k;
     leaf = λ h. let q = leaf-result W facts d rs k h in
-        subst (TellsTrees W rs (treesOf W d l)) (sym (q .1))
-        (tells W rs (q .0) (treesOf W d l) (→found (W .taxa) d rs (k .facts) (leafSetOf W l)));
-    no-leaf = λ n. nil-of-none (treesOf W d l) (λ xs m. n (leaf-listed W facts d rs k xs m));
+        subst (TellsTrees W rs (treesOfList W d l)) (sym (q .1))
+        (tells W rs (q .0) (treesOfList W d l) (→found (W .taxa) d rs (k .facts) (leafSetOf W l)));
+    no-leaf = λ n. nil-of-none (treesOfList W d l) (λ xs m. n (leaf-listed W facts d rs k xs m));
   }

@@ -37,7 +37,7 @@ use Rattle.trees.proofs.Ties.TieRule.{tie-is-marks}
 use Rattle.kept.specs.declared.table.Table.{Table}
 use Rattle.kept.specs.View.{rowAt, resultAt, entryAt, entriesOf, clustersIn}
 use Rattle.table.proofs.Fitting.FitTables.{FitRows}
-use Rattle.demands.specs.Worked.{tuplesAt, liveAt, setOf, union, sumBests, Chosen, Joined, WorkedRow}
+use Rattle.demands.specs.Worked.{tuplesAt, liveAt, markedSet, joinedSet, sumBests, Chosen, Joined, WorkedRow}
 use Rattle.demands.proofs.Worked.Keys.{Found, nothing, leads, found, dead-sum, dead-many}
 use Rattle.demands.proofs.Worked.Standing.{fit-full}
 use Rattle.demands.proofs.Worked.Tuples.{memberIn, set-of-marks, Live, live→, key-is, member-other, same-members}
@@ -112,10 +112,10 @@ module _ (W : Width) (u : Table) (fit : FitRows W (u .degree) (entriesOf u (u .r
         (→before (sumBests σ, marks σ) (sumBests τ, marks τ) b))
 
     -- as heavy: the marks are the larger, or they are the same and so are the tuples
-    first-set : (σ : List Beneath) → Mem σ (liveAt u i) → sumBests σ ≡ sumBests τ → (σ ≡ τ) ⊎ T (tieFirst (union cs τ) (union cs σ))
+    first-set : (σ : List Beneath) → Mem σ (liveAt u i) → sumBests σ ≡ sumBests τ → (σ ≡ τ) ⊎ T (tieFirst (joinedSet cs τ) (joinedSet cs σ))
     first-set σ k e = go (decLt (marks σ) (marks τ)) (decLt (marks τ) (marks σ))
       where
-        go : Dec (marks σ < marks τ) → Dec (marks τ < marks σ) → (σ ≡ τ) ⊎ T (tieFirst (union cs τ) (union cs σ))
+        go : Dec (marks σ < marks τ) → Dec (marks τ < marks σ) → (σ ≡ τ) ⊎ T (tieFirst (joinedSet cs τ) (joinedSet cs σ))
         go (yes h) b =
             inr (subst T (sym (tie-is-marks cs (fit .falls) (fit-full W (u .degree) es fit) (held τ) (held σ)))
             (lt→ltb (marks σ) (marks τ) h))
@@ -127,21 +127,21 @@ module _ (W : Width) (u : Table) (fit : FitRows W (u .degree) (entriesOf u (u .r
     abbrev both : Fam
     both = join (one C) (held τ)
 
-    both-set : setOf cs (ownMark cs r + keyOf τ .1) ≡ keep both cs
+    both-set : markedSet cs (ownMark cs r + keyOf τ .1) ≡ keep both cs
     both-set =
-        ap (λ (x : Key). setOf cs (ownMark cs r + x .1)) (key τ m)
-        ∙ ap (setOf cs) (sym (marks-join cs (one C) (held τ)
+        ap (λ (x : Key). markedSet cs (ownMark cs r + x .1)) (key τ m)
+        ∙ ap (markedSet cs) (sym (marks-join cs (one C) (held τ)
         (λ c s t. member-other W (u .degree) es fit C τ (living τ m) c t (eqb→eq c C s))))
         ∙ set-of-marks cs both (fit .falls)
 
-    own-set : (c : ℕ) → Mem c (keep both cs) ↔ ((c ≡ C) ⊎ Mem c (union cs τ))
+    own-set : (c : ℕ) → Mem c (keep both cs) ↔ ((c ≡ C) ⊎ Mem c (joinedSet cs τ))
     own-set c = (λ k. let q = mem-of-keep both cs k in out (q .0) (T-or (one C c) (held τ c) (q .1)), into)
       where
-        out : Mem c cs → T (one C c) ⊎ T (held τ c) → (c ≡ C) ⊎ Mem c (union cs τ)
+        out : Mem c cs → T (one C c) ⊎ T (held τ c) → (c ≡ C) ⊎ Mem c (joinedSet cs τ)
         out k (inl s) = inl (eqb→eq c C s)
         out k (inr t) = inr (mem-keep (held τ) cs k t)
 
-        into : (c ≡ C) ⊎ Mem c (union cs τ) → Mem c (keep both cs)
+        into : (c ≡ C) ⊎ Mem c (joinedSet cs τ) → Mem c (keep both cs)
         into (inl e) = mem-keep both cs (Memᴰ·cast e listed) (or-l (one C c) (held τ c) (eq→eqb c C e))
         into (inr k) = let q = mem-of-keep (held τ) cs k in mem-keep both cs (q .0) (or-r (one C c) (held τ c) (q .1))
 
@@ -150,7 +150,7 @@ module _ (W : Width) (u : Table) (fit : FitRows W (u .degree) (entriesOf u (u .r
       live = m;
       heaviest = λ σ k h. not-before σ k (heavier h);
       best = b ∙ ap (λ (x : Key). r .weight +ℤ x .0) (key τ m);
-      own = λ c. subst (λ (l : List ℕ). Mem c l ↔ ((c ≡ C) ⊎ Mem c (union cs τ))) (sym (ap (setOf cs) s ∙ both-set)) (own-set c);
+      own = λ c. subst (λ (l : List ℕ). Mem c l ↔ ((c ≡ C) ⊎ Mem c (joinedSet cs τ))) (sym (ap (markedSet cs) s ∙ both-set)) (own-set c);
       first = first-set;
     }
 
@@ -200,7 +200,7 @@ module _ (W : Width) (u : Table) (fit : FitRows W (u .degree) (entriesOf u (u .r
       ap (λ (v : Result). v .count) q,
       ap (λ (v : Result). v .mark) q,
       ap (λ (v : Result). v .best) q,
-      ap (λ (v : Result). setOf cs (v .members)) q ∙ set-of-marks cs (one C) (fit .falls) ∙ keep-only cs C (fit .falls) listed,
+      ap (λ (v : Result). markedSet cs (v .members)) q ∙ set-of-marks cs (one C) (fit .falls) ∙ keep-only cs C (fit .falls) listed,
     );
     joined = λ s n. joined-row (e ∙ cond-true (isScored r) by-taxa blank s ∙ cond-false (single C) (alone cs r) many n);
   }

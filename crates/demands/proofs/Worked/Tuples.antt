@@ -34,10 +34,10 @@ use Rattle.kept.specs.Marks.{isMarkedIn}
 use Rattle.kept.proofs.Laws.Fit.{fit→}
 use Rattle.table.proofs.Fitting.FitTables.{FitRows}
 use Rattle.table.proofs.Rows.Marked.{marked-mem, every-marked→, marksOf-marked}
-use Rattle.demands.specs.Worked.{setOf, sumBests}
+use Rattle.demands.specs.Worked.{markedSet, sumBests}
 use Rattle.demands.proofs.Worked.Standing.{fit-full}
 
-pub set-of-marks : (cs : List ℕ) (S : Fam) → Falling cs → setOf cs (marksIn cs S) ≡ keep S cs
+pub set-of-marks : (cs : List ℕ) (S : Fam) → Falling cs → markedSet cs (marksIn cs S) ≡ keep S cs
 set-of-marks cs S f =
     keep-ext (isMarkedIn cs (marksIn cs S)) S cs
     (marks-inj cs (isMarkedIn cs (marksIn cs S)) S (sym (marksOf-marked cs (marksIn cs S) f (marks-lt cs S))))
