@@ -33,7 +33,8 @@ module _ {W : Width} (facts : WidthFacts W) (l : List ℕ) (d : ℕ) (degree : T
   after-changes P f =
       let m = changeAll W l xs in
       let b = changes-accepted facts xs a in
-      subst (P m) (sym (fresh facts d degree xs a ∙ built-table W m d degree (b .accepted))) (f m (buildable facts degree (b .byte) (b .accepted)))
+      subst (P m) (sym (fresh facts d degree xs a ∙ built-table W m d degree (b .accepted)))
+      (f m (buildable facts degree (b .byte) (b .accepted)))
 
 round-trips : RoundTrips
 round-trips = record {

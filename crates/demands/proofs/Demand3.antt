@@ -74,7 +74,8 @@ module _ {W : Width} (facts : WidthFacts W) {l : List ℕ} (d : ℕ) (degree : T
   fresh = rescore-all-is-build facts d degree l xs a
 
   takes : (c : ℕ) (z : ℤ) (s : ℕ)
-      → (rescoreTable W (rescoreAll W (buildTable W l d .given) xs) c z s .sent .number ≡ 0) ↔ (HasCluster W (changeAll W l xs) c × KeepsScore z s)
+      → (rescoreTable W (rescoreAll W (buildTable W l d .given) xs) c z s .sent .number ≡ 0)
+      ↔ (HasCluster W (changeAll W l xs) c × KeepsScore z s)
   takes c z s =
       let by = built-rescores-iff facts d degree (changes-accepted facts xs a) c z s in
       let same = ap (λ (t : Table). rescoreTable W t c z s .sent .number) fresh in (

@@ -5,5 +5,6 @@ pub mod First
 pub mod Told
 -- what is drawn of it
 pub mod Draws
--- its printed line
+-- its printed line: told from others by its bytes, and in words
+mod LineBytes
 pub mod Lines

@@ -85,7 +85,8 @@ module _ (r : Record) where
   record-iff : T keeps ↔ KeepsRecord r
   record-iff = kept-iff (r .cluster) (r .weight) (r .state) false
 
-  pub says-writing : {rs : List Reason} {rest : Sending} → Says rs rest → Says (writeReasons r ++ rs) (words.refuse 5 (KeepsRecord r → ⊥) rest)
+  pub says-writing : {rs : List Reason} {rest : Sending} → Says rs rest
+      → Says (writeReasons r ++ rs) (words.refuse 5 (KeepsRecord r → ⊥) rest)
   says-writing says = says-unless keeps record-iff (BadRecord 0) refl (λ _. says)
 
   pub writing-none : NoneApplies (writeReasons r) ↔ KeepsRecord r

@@ -71,7 +71,8 @@ module _ (W : Width) (t : Table) (i : ℕ) where
     -- the row itself and the members of the tuple's rows are the members
     pub own : (c : ℕ) → Mem c (markedSet all (result .members)) ↔ ((c ≡ row .cluster) ⊎ Mem c (joinedSet all τ))
     -- of two different tuples of that sum, the chosen one's set has the largest cluster that is in exactly one of the two sets
-    pub first : (σ : List Beneath) → Mem σ (liveAt t i) → sumBests σ ≡ sumBests τ → (σ ≡ τ) ⊎ T (tieFirst (joinedSet all τ) (joinedSet all σ))
+    pub first : (σ : List Beneath) → Mem σ (liveAt t i) → sumBests σ ≡ sumBests τ
+        → (σ ≡ τ) ⊎ T (tieFirst (joinedSet all τ) (joinedSet all σ))
 
   pub record Joined : Type 0 where
     -- marked by a tuple with no zero count and a marked one, or past the limit

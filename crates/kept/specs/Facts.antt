@@ -40,7 +40,7 @@ pub record Matched (cs : List ℕ) (r : Row) (v : Result) : Type 0 where
   pub below : v .members < 2 ^ length cs
   -- count zero: no member is marked, and mark and best weight are zero
   pub none : v .count ≡ 0 → (v .members ≡ 0) × (v .mark ≡ 0) × (v .best ≡ pos 0)
-  -- else the row itself is marked, every marked row's cluster lies inside it, and the best weight is one that a tree on so many taxa can have
+  -- else the row itself is marked, every marked row's cluster lies inside it, and the best weight is that of some tree on so many taxa
   pub own : v .count ≢ 0 → T (isMarkedIn cs (v .members) (r .cluster))
   pub inner : v .count ≢ 0 → T (everyMarked cs (v .members) (λ (c : ℕ). inside c (r .cluster)))
   pub light : v .count ≢ 0 → natAbs (v .best) ≤ weightMax * (2 * size (r .cluster) - 1)
