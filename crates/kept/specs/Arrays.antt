@@ -1,14 +1,12 @@
--- The arrays of a table as the private functions see them, and how many rows it may have.
+-- The arrays of a table as the private functions see them.
 --     Rising cs n     the first n clusters are there, and ascend
 --     Sized t         every array has room for 128 rows
---     Bounded W d n   n rows and the degree bound d are those of some table of the width
 -- Assumes nothing.
 use mathlib.Core.Path.{_≡_}
 use mathlib.Core.List.{List}
 use Prim.Native.Nat.{ℕ, _≤_, _<_}
-use lib.Dec.{T}
 use lib.ListN.{length, getD}
-use Rattle.laws.specs.Limits.{Width, isDegree, rowCap}
+use Rattle.laws.specs.Limits.{rowCap}
 use Rattle.kept.specs.declared.table.Table.{Table}
 
 pub record Rising (cs : List ℕ) (n : ℕ) : Type 0 where
@@ -25,8 +23,3 @@ pub record Sized (t : Table) : Type 0 where
   pub bests : length (t .bests) ≡ rowCap
   pub lows : length (t .«members_low») ≡ rowCap
   pub highs : length (t .«members_high») ≡ rowCap
-
-pub record Bounded (W : Width) (d n : ℕ) : Type 0 where
-  pub degree : T (isDegree d)
-  pub filled : 1 ≤ n
-  pub capped : n ≤ W .rows

@@ -3,6 +3,7 @@
 --     Ranged W r v     the ranges of a row's results
 --     Matched cs r v   what its count says of its marks and its best weight, cs being the clusters of all rows, the largest first
 --     FitRow W cs r v  a row and its results
+--     Bounded W d n    n rows and the degree bound d are those of some table of the width
 --     FitTable W t     the table
 -- Assumes nothing.
 use mathlib.Core.Path.{_≡_}
@@ -14,12 +15,11 @@ use lib.Dec.{T}
 use lib.IntN.{pos, natAbs}
 use lib.ListN.{length}
 use Rattle.laws.specs.Cluster.{inside, size, single}
-use Rattle.laws.specs.Limits.{Width, weightMax, rowCap}
+use Rattle.laws.specs.Limits.{Width, weightMax, isDegree, rowCap}
 use Rattle.laws.specs.Row.{Row, isScored}
 use Rattle.cluster.specs.Rule.{Keeps}
 use Rattle.trees.specs.Result.{Result}
 use Rattle.kept.specs.declared.table.Table.{Table}
-use Rattle.kept.specs.Arrays.{Bounded}
 use Rattle.kept.specs.View.{rowAt, resultAt, entryAt, clustersIn}
 use Rattle.kept.specs.Blank.{isBlank, isEmpty}
 use Rattle.kept.specs.Marks.{everyMarked, isMarkedIn}
@@ -40,7 +40,8 @@ pub record Matched (cs : List ℕ) (r : Row) (v : Result) : Type 0 where
   pub below : v .members < 2 ^ length cs
   -- count zero: no member is marked, and mark and best weight are zero
   pub none : v .count ≡ 0 → (v .members ≡ 0) × (v .mark ≡ 0) × (v .best ≡ pos 0)
-  -- else the row itself is marked, every marked row's cluster lies inside it, and the best weight is that of some tree on so many taxa
+  -- else the row itself is marked, every marked row's cluster lies inside it, and the best weight is within 1,000,000 times (2t - 1) of
+  -- zero, t being its taxa
   pub own : v .count ≢ 0 → T (isMarkedIn cs (v .members) (r .cluster))
   pub inner : v .count ≢ 0 → T (everyMarked cs (v .members) (λ (c : ℕ). inside c (r .cluster)))
   pub light : v .count ≢ 0 → natAbs (v .best) ≤ weightMax * (2 * size (r .cluster) - 1)
@@ -53,6 +54,11 @@ pub record FitRow (W : Width) (cs : List ℕ) (r : Row) (v : Result) : Type 0 wh
   pub matched : Matched cs r v
 
 -- ---- the table
+
+pub record Bounded (W : Width) (d n : ℕ) : Type 0 where
+  pub degree : T (isDegree d)
+  pub filled : 1 ≤ n
+  pub capped : n ≤ W .rows
 
 pub record FitTable (W : Width) (t : Table) : Type 0 where
   -- a degree bound from 3 to 5, and 1 to 128 rows

@@ -9,11 +9,11 @@ pub mod Marks
 pub mod Results
 -- what a fit table is
 pub mod Fit
--- how many rows there may be, and what private functions cite: the arrays of a table
-pub mod Arrays
 -- what a fit table is, as facts
 pub mod Facts
 -- looking up rows
 pub mod Rows
+-- what private functions cite: the arrays of a table
+pub mod Arrays
 -- what private functions cite: one row by value, and one word of marks
 pub mod Fields

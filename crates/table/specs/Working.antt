@@ -19,7 +19,8 @@ use Rattle.kept.specs.declared.table.Table.{Table}
 use Rattle.kept.specs.View.{rowAt, entryAt, entriesOf, clustersIn, clustersDown, tableOf}
 use Rattle.kept.specs.Blank.{isEmpty}
 use Rattle.kept.specs.Fit.{fitEntry}
-use Rattle.kept.specs.Arrays.{Rising, Sized, Bounded}
+use Rattle.kept.specs.Arrays.{Rising, Sized}
+use Rattle.kept.specs.Facts.{Bounded}
 use Rattle.table.specs.declared.tally.Tally.{Tally}
 use Rattle.table.specs.Tally.{tallyOf, ownTally}
 use Rattle.table.specs.Searched.{Starts, WordsIn, Sound}

@@ -32,7 +32,7 @@ use Rattle.trees.specs.Built.{builtTable}
 use Rattle.trees.specs.Rescored.{putScore, workedOut, again, rescored}
 use Rattle.trees.proofs.Rescore.{put-cluster, put-other, again-clusters}
 use Rattle.kept.specs.declared.table.Table.{Table}
-use Rattle.kept.specs.Arrays.{Bounded}
+use Rattle.kept.specs.Facts.{Bounded}
 use Rattle.kept.specs.View.{entryAt, entriesOf, clustersIn, tableOf}
 use Rattle.kept.specs.Fit.{fitEntry, isFit}
 use Rattle.table.specs.Rescore.{newTable}

@@ -50,7 +50,8 @@ use Rattle.trees.specs.Kind.{workedFrom}
 use Rattle.trees.proofs.Built.{worked-is-built}
 use Rattle.kept.specs.declared.table.Table.{Table}
 use Rattle.kept.specs.View.{rowAt, entryAt, clustersIn, tableOf, zeroTable}
-use Rattle.kept.specs.Arrays.{Rising, Bounded}
+use Rattle.kept.specs.Arrays.{Rising}
+use Rattle.kept.specs.Facts.{Bounded}
 use Rattle.kept.proofs.Laws.Blank.{blank→empty}
 use Rattle.kept.proofs.Laws.Fit.{entries-rising}
 use Rattle.kept.proofs.Laws.View.{entries-table, table-sized, table-past}
