@@ -19,7 +19,7 @@ use mathlib.Core.Option.{Option, none, some}
 use mathlib.Core.List.{List, [], _∷_, _++_}
 use Prim.Native.Nat.{ℕ, _≤_}
 use lib.Dec.{T, ltb, ltb→lt, lt→ltb, T-not, not-T}
-use lib.ListN.{length, drop}
+use lib.ListN.{length}
 use Rattle.laws.proofs.Tests.{T-of-not}
 use Rattle.answers.specs.declared.refusal.Answer.the-variants.{Refused}
 use Rattle.answers.specs.declared.refusal.Refusal.{Refusal}
@@ -28,9 +28,10 @@ use Rattle.answers.specs.Refusal.{numberOf, positionOf, Sent, sentOf}
 use Rattle.answers.specs.Reasons.{Reason, when, firstReason, First, NoneApplies}
 use Rattle.answers.specs.Outcome.{Outcome, ended, written}
 use Rattle.answers.proofs.Laws.Reasons.{first-iff}
+use Rattle.answers.proofs.Laws.Refusal.{number-pos}
 use Rattle.answers.proofs.Laws.Outcome.{accepts-iff, refuses-iff, written-accepts-iff}
 use Rattle.demands.specs.Sending as words
-use Rattle.demands.specs.Sending.{Sending, accept, sentBack, Answered}
+use Rattle.demands.specs.Sending.{Sending, accept, sentBack, success, putInto, Answered}
 use Rattle.demands.specs.Refusals.{intoRoom}
 
 -- ---- reasons in words
@@ -109,9 +110,11 @@ module _ {A : Type 0} (rs : List Reason) (stays : A) (n : ℕ) (given : A) where
   end o = ended o stays n given
 
   pub answered : {sends : Sending} {Taken : Type 0} → Says rs sends → NoneApplies rs ↔ Taken
-      → Answered (ended (firstReason rs) stays n given) sends Taken stays
+      → Answered (ended (firstReason rs) stays n given) sends Taken n given stays
   answered {sends} says none-is = record {
     taken = (λ e. none-is .0 (accepted .0 e), λ h. accepted .1 (none-is .1 h));
+    tells = tells (firstReason rs);
+    gives = gives (firstReason rs);
     refused = λ m p h. (told m p h (firstReason rs) refl, sent m p);
     bare = bare (firstReason rs);
     stays = left (firstReason rs);
@@ -130,6 +133,14 @@ module _ {A : Type 0} (rs : List Reason) (stays : A) (n : ℕ) (given : A) where
           let k = says .told m p .1 s in
           refuses-iff rs stays n given (k .0) .1 (k .1) ∙ refusal-is (k .0) (k .2) (k .3)
 
+      tells : (o : Option Refusal) → end o .sent .number ≡ 0 → end o .sent ≡ success n
+      tells (some f) e = absurd (number-pos f e)
+      tells none e = refl
+
+      gives : (o : Option Refusal) → end o .sent .number ≡ 0 → end o .given ≡ given
+      gives (some f) e = absurd (number-pos f e)
+      gives none e = refl
+
       bare : (o : Option Refusal) → end o .sent .number ≢ 0 → end o .sent ≡ sentBack (end o .sent .number) (end o .sent .position)
       bare (some f) h = refl
       bare none h = absurd (h refl)
@@ -140,7 +151,7 @@ module _ {A : Type 0} (rs : List Reason) (stays : A) (n : ℕ) (given : A) where
 
 module _ (out room : List ℕ) where
   abbrev whole : List ℕ
-  whole = out ++ drop (length out) room
+  whole = putInto out room
 
   room-iff : (rs : List Reason) → NoneApplies (rs ++ noRoom out room) ↔ (NoneApplies rs × (length out ≤ length room))
   room-iff rs =
@@ -149,13 +160,13 @@ module _ (out room : List ℕ) where
       (λ h. fits .0 (ends .1 h), λ h. ends .0 (fits .1 h))
 
   pub answered-room : (rs : List Reason) {sends : Sending} {P : Type 0} → Says (rs ++ noRoom out room) sends → NoneApplies rs ↔ P
-      → Answered (written rs out room) sends (P × (length out ≤ length room)) room
+      → Answered (written rs out room) sends (P × (length out ≤ length room)) (length out) (putInto out room) room
   answered-room rs says iff =
       let both = room-iff rs in
       answered (rs ++ noRoom out room) room (length out) whole says
       (λ h. let k = both .0 h in (iff .0 (k .0), k .1), λ h. both .1 (iff .1 (h .0), h .1))
 
-  pub answered-given : Answered (written [] out room) (intoRoom out room) (length out ≤ length room) room
+  pub answered-given : Answered (written [] out room) (intoRoom out room) (length out ≤ length room) (length out) (putInto out room) room
   answered-given =
       let both = room-iff [] in
       answered (noRoom out room) room (length out) whole (says-room out room) (λ h. both .0 h .1, λ h. both .1 (tt, h))

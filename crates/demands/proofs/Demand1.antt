@@ -6,19 +6,23 @@ use mathlib.Core.Logic.{_↔_}
 use mathlib.Core.Option.{Option}
 use mathlib.Core.List.{List, []}
 use Prim.Native.Nat.{ℕ, _^_, _≤_, _<_}
-use native.Mathlib.Nat.{le-trans, min-eq-left}
-use lib.Dec.{T, ltb→lt, lt→ltb}
+use native.Mathlib.Decide.{decLt}
+use native.Mathlib.Nat.{le-trans, le-antisymm}
+use native.Mathlib.Omega.{arith}
+use lib.Dec.{T, eqb→eq, ltb→lt}
 use lib.IntN.{ℤ}
 use lib.ListN.{length, getD}
-use Rattle.laws.specs.Cluster.{inside, unionOf}
-use Rattle.laws.specs.Limits.{narrow, rowCap}
+use Rattle.laws.specs.Cluster.{inside, size}
+use Rattle.laws.specs.Limits.{narrow}
 use Rattle.laws.proofs.Cluster.{inside-trans, inside-unionOf, taxon-of-unionOf}
 use Rattle.laws.proofs.Down.{mem-down, down-mem}
+use Rattle.laws.proofs.First.{first-high, first-at, unfound-iff}
+use Rattle.laws.proofs.Tests.{true-T, eq→eqb}
 use Rattle.laws.proofs.Width.{narrow-facts}
 use Rattle.answers.specs.declared.refusal.Refusal.{Refusal}
 use Rattle.answers.specs.Refusal.{Sent}
 use Rattle.answers.specs.Outcome.{written}
-use Rattle.answers.proofs.Laws.Reasons.{first-iff}
+use Rattle.answers.proofs.Laws.Reasons.{first-iff, none-iff}
 use Rattle.cluster.specs.declared.record.Record.{Record}
 use Rattle.cluster.specs.Record.{recordBytes, rowIn, recordOf, bytesOf}
 use Rattle.cluster.specs.Rule.{KeepsScore}
@@ -30,32 +34,40 @@ use Rattle.lists.specs.Accepted.{Accepted}
 use Rattle.lists.proofs.Theorems.{accepted-iff}
 use Rattle.kept.specs.declared.table.Table.{Table}
 use Rattle.kept.specs.View.{rowAt, clustersDown, tableOf, zeroTable}
-use Rattle.kept.specs.Rows.{placeOf, leafSet}
-use Rattle.kept.proofs.Laws.Rows.{placeOf-at, hasRow-is}
+use Rattle.kept.specs.Rows.{shownRows, placeOf, leafSet}
+use Rattle.kept.proofs.Laws.Rows.{isClusterAt}
 use Rattle.trees.specs.Built.{builtTable}
+use Rattle.shapes.specs.Shape.{Shape}
+use Rattle.shapes.specs.Text.{textBytes}
+use Rattle.shapes.specs.Drawn.{shapeOf}
+use Rattle.shapes.specs.Nests.{TreeOn}
 use Rattle.members.specs.Draw.{membersOf, noMembers, drawnMembers, drawReasons, drawnTree}
+use Rattle.members.proofs.Drawn.{drawable}
 use Rattle.table.specs.Build.{buildReasons, buildTable}
 use Rattle.table.specs.Rescore.{rescoreReasons, newTable, rescoreTable}
 use Rattle.drawing.specs.Draw.{drawTree, leafText, noText, textAt, drawnText, drawText}
+use Rattle.drawing.proofs.Laws.Draw.{tree-on}
 use Rattle.report.specs.Words.{refusedLine}
 use Rattle.report.specs.Line.{lineCap, lineFor, tableLine, lineOf, lineInto}
 use Rattle.report.proofs.Laws.Line.{line-length-le, line-put}
-use Rattle.demands.specs.Sending.{accept, sentBack, Answered}
+use Rattle.demands.specs.Sending.{accept, sentBack, putInto, Answered}
 use Rattle.demands.specs.Refusals.{Degree, KeepsBytes, KeepsRecord, HasRow, Fit, MayBeDrawn}
 use Rattle.demands.specs.Refusals.{reading, writing, listing, building, rescoring, drawing, intoRoom}
+use Rattle.demands.specs.Trees.{ShapeOf}
 use Rattle.demands.specs.Demands.{Demand1}
+use Rattle.demands.proofs.Shapes.{shape-of, shape-is}
 use Rattle.demands.proofs.Answered.{says-none, says-room, refusal-is, answered, answered-room, answered-given}
 use Rattle.demands.proofs.Reasons.{says-reading, reading-none, says-writing, writing-none, says-listing, says-building}
-use Rattle.demands.proofs.Reasons.{building-none, fit-iff, row-iff, says-rescoring, rescoring-none, says-drawing, drawing-none}
+use Rattle.demands.proofs.Reasons.{building-none, fit-iff, says-rescoring, rescoring-none, says-drawing, drawing-none}
 
 -- ---- records
 
-read-answered : (l : List ℕ) → Answered (readRecord l) (reading l) ((length l ≡ recordBytes) × KeepsBytes l) zeroRecord
+read-answered : (l : List ℕ) → Answered (readRecord l) (reading l) ((length l ≡ recordBytes) × KeepsBytes l) 0 (recordOf l) zeroRecord
 unfolding readRecord
 read-answered l = answered (readReasons l) zeroRecord 0 (recordOf l) (says-reading l) (reading-none l)
 
-write-answered : (r : Record) (room : List ℕ)
-    → Answered (writeRecord r room) (writing r room) (KeepsRecord r × (recordBytes ≤ length room)) room
+write-answered : (r : Record) (room : List ℕ) → let out = bytesOf narrow (rowIn r) in
+    Answered (writeRecord r room) (writing r room) (KeepsRecord r × (recordBytes ≤ length room)) recordBytes (putInto out room) room
 unfolding writeRecord
 write-answered r room =
     let out = bytesOf narrow (rowIn r) in
@@ -63,13 +75,13 @@ write-answered r room =
 
 -- ---- lists
 
-list-answered : (l : List ℕ) → Answered (readList narrow l) (listing narrow l) (Accepted narrow l) (listed [])
+list-answered : (l : List ℕ) → Answered (readList narrow l) (listing narrow l) (Accepted narrow l) 0 (listed (rowsOf narrow l)) (listed [])
 unfolding readList
 list-answered l =
     answered (listReasons narrow l) (listed []) 0 (listed (rowsOf narrow l)) (says-listing narrow l) (accepted-iff narrow l)
 
-build-answered : (l : List ℕ) (d : ℕ)
-    → Answered (buildTable narrow l d) (building narrow l d) (Degree d × Accepted narrow l) zeroTable
+build-answered : (l : List ℕ) (d : ℕ) → let built = tableOf d (builtTable narrow d (rowsOf narrow l)) in
+    Answered (buildTable narrow l d) (building narrow l d) (Degree d × Accepted narrow l) 0 built zeroTable
 unfolding buildTable
 build-answered l d =
     answered (buildReasons narrow l d) zeroTable 0 (tableOf d (builtTable narrow d (rowsOf narrow l)))
@@ -77,48 +89,61 @@ build-answered l d =
 
 -- ---- tables
 
-module _ (t : Table) (capped : t .rows ≤ rowCap) where
-  place-iff : (c : ℕ) → (placeOf t c < t .rows) ↔ HasRow t c
-  place-iff c =
-      let is = hasRow-is t capped c in (
-        λ h. row-iff t c .0 (subst T (sym is) (lt→ltb (placeOf t c) (t .rows) h)),
-        λ q. ltb→lt (placeOf t c) (t .rows) (subst T is (row-iff t c .1 q)),
-      )
+module _ (t : Table) where
+  abbrev shown : ℕ
+  shown = shownRows t
 
-  taxon-iff : (x : ℕ) → T (inside (2 ^ x) (leafSet t)) ↔ ((i : ℕ) × (i < t .rows) × T (inside (2 ^ x) (rowAt t i .cluster)))
+  place-at : (c : ℕ) → placeOf t c < shown → rowAt t (placeOf t c) .cluster ≡ c
+  place-at c h = eqb→eq (rowAt t (placeOf t c) .cluster) c (true-T (first-at (isClusterAt (t .clusters) c) 0 shown (omega (arith, h))))
+
+  place-none : (c : ℕ) → (placeOf t c < shown → ⊥) → placeOf t c ≡ shown
+  place-none c n = le-antisymm (omega (arith, first-high (isClusterAt (t .clusters) c) 0 shown)) (not-lt (decLt (placeOf t c) shown))
+    where
+      not-lt : Dec (placeOf t c < shown) → shown ≤ placeOf t c
+      not-lt (yes h) = absurd (n h)
+      not-lt (no f) = omega arith
+
+  place-iff : (c : ℕ) → (placeOf t c < shown) ↔ ((i : ℕ) × (i < shown) × (rowAt t i .cluster ≡ c))
+  place-iff c = (λ h. (placeOf t c, h, place-at c h), λ q. go q (decLt (placeOf t c) shown))
+    where
+      go : (i : ℕ) × (i < shown) × (rowAt t i .cluster ≡ c) → Dec (placeOf t c < shown) → placeOf t c < shown
+      go q (yes h) = h
+      go q (no f) =
+          let none = unfound-iff (isClusterAt (t .clusters) c) shown .0 (λ h. f (ltb→lt (placeOf t c) shown h)) (q .0) (q .1) in
+          absurd (subst T none (eq→eqb (rowAt t (q .0) .cluster) c (q .2)))
+
+  taxon-iff : (x : ℕ) → T (inside (2 ^ x) (leafSet t)) ↔ ((i : ℕ) × (i < shown) × T (inside (2 ^ x) (rowAt t i .cluster)))
   taxon-iff x = (to, from)
     where
-      union-is : leafSet t ≡ unionOf (clustersDown (t .clusters) (t .rows))
-      union-is = ap (λ (n : ℕ). unionOf (clustersDown (t .clusters) n)) (min-eq-left capped)
-
-      to : T (inside (2 ^ x) (leafSet t)) → (i : ℕ) × (i < t .rows) × T (inside (2 ^ x) (rowAt t i .cluster))
+      to : T (inside (2 ^ x) (leafSet t)) → (i : ℕ) × (i < shown) × T (inside (2 ^ x) (rowAt t i .cluster))
       to h =
-          let q = taxon-of-unionOf (clustersDown (t .clusters) (t .rows)) x (subst (λ (c : ℕ). T (inside (2 ^ x) c)) union-is h) in
-          let p = mem-down (λ (i : ℕ). getD (t .clusters) i 0) (t .rows) (q .0) (q .1) in
+          let q = taxon-of-unionOf (clustersDown (t .clusters) shown) x h in
+          let p = mem-down (λ (i : ℕ). getD (t .clusters) i 0) shown (q .0) (q .1) in
           (p .0, p .1, subst (λ (c : ℕ). T (inside (2 ^ x) c)) (p .2) (q .2))
 
-      from : (i : ℕ) × (i < t .rows) × T (inside (2 ^ x) (rowAt t i .cluster)) → T (inside (2 ^ x) (leafSet t))
+      from : (i : ℕ) × (i < shown) × T (inside (2 ^ x) (rowAt t i .cluster)) → T (inside (2 ^ x) (leafSet t))
       from q =
-          let m = down-mem (λ (i : ℕ). getD (t .clusters) i 0) (t .rows) (q .0) (q .1) in
+          let m = down-mem (λ (i : ℕ). getD (t .clusters) i 0) shown (q .0) (q .1) in
           let c = rowAt t (q .0) .cluster in
-          subst (λ (u : ℕ). T (inside (2 ^ x) u)) (sym union-is)
-          (inside-trans (2 ^ x) c _ (q .2) (inside-unionOf (clustersDown (t .clusters) (t .rows)) c m))
+          inside-trans (2 ^ x) c (leafSet t) (q .2) (inside-unionOf (clustersDown (t .clusters) shown) c m)
 
 rescore-answered : (t : Table) (c : ℕ) (z : ℤ) (s : ℕ)
-    → Answered (rescoreTable narrow t c z s) (rescoring narrow t c z s) (Fit narrow t × HasRow t c × KeepsScore z s) t
+    → Answered (rescoreTable narrow t c z s) (rescoring narrow t c z s) (Fit narrow t × HasRow t c × KeepsScore z s) 0
+    (newTable narrow t c z s) t
 unfolding rescoreTable
 rescore-answered t c z s =
     answered (rescoreReasons narrow t c z s) t 0 (newTable narrow t c z s) (says-rescoring t c narrow narrow-facts z s)
     (rescoring-none t c narrow narrow-facts z s)
 
 module _ (t : Table) where
-  drawn-tree-answered : Answered (drawnTree narrow t) (drawing narrow t accept) (MayBeDrawn narrow t) noMembers
+  drawn-tree-answered : Answered (drawnTree narrow t) (drawing narrow t accept) (MayBeDrawn narrow t) 0 (drawnMembers t) noMembers
   unfolding drawnTree
   drawn-tree-answered =
       answered (drawReasons narrow t) noMembers 0 (drawnMembers t)
       (says-drawing narrow narrow-facts t says-none) (drawing-none narrow narrow-facts t)
 
-  drawn-text-answered : Answered (drawnText narrow t) (drawing narrow t accept) (MayBeDrawn narrow t) noText
+  drawn-text-answered :
+      Answered (drawnText narrow t) (drawing narrow t accept) (MayBeDrawn narrow t) (length (leafText t)) (textAt t) noText
   unfolding drawnText
   drawn-text-answered =
       answered (drawReasons narrow t) noText (length (leafText t)) (textAt t)
@@ -126,27 +151,42 @@ module _ (t : Table) where
 
   -- whatever is drawn, into a room
   drawing-answered : (out room : List ℕ) → Answered (written (drawReasons narrow t) out room)
-      (drawing narrow t (intoRoom out room)) (MayBeDrawn narrow t × (length out ≤ length room)) room
+      (drawing narrow t (intoRoom out room)) (MayBeDrawn narrow t × (length out ≤ length room)) (length out) (putInto out room) room
   drawing-answered out room =
       answered-room out room (drawReasons narrow t)
       (says-drawing narrow narrow-facts t (says-room out room)) (drawing-none narrow narrow-facts t)
 
   module _ (room : List ℕ) where
     tree-answered : Answered (drawTree narrow t room) (drawing narrow t (intoRoom (membersOf t) room))
-        (MayBeDrawn narrow t × (length (membersOf t) ≤ length room)) room
+        (MayBeDrawn narrow t × (length (membersOf t) ≤ length room)) (length (membersOf t)) (putInto (membersOf t) room) room
     unfolding drawTree
     tree-answered = drawing-answered (membersOf t) room
 
     text-answered : Answered (drawText narrow t room) (drawing narrow t (intoRoom (leafText t) room))
-        (MayBeDrawn narrow t × (length (leafText t) ≤ length room)) room
+        (MayBeDrawn narrow t × (length (leafText t) ≤ length room)) (length (leafText t)) (putInto (leafText t) room) room
     unfolding drawText
     text-answered = drawing-answered (leafText t) room
+
+-- ---- the text of any table that may be drawn
+
+module _ (t : Table) (h : MayBeDrawn narrow t) where
+  members-tree : TreeOn (membersOf t) (leafSet t)
+  members-tree =
+      tree-on narrow narrow-facts (drawable narrow narrow-facts t (none-iff (drawReasons narrow t) .1
+      (drawing-none narrow narrow-facts t .1 h)))
+
+  text-shape : (s : Shape) × ShapeOf (membersOf t) s
+  text-shape = (shapeOf (size (leafSet t)) (membersOf t) (leafSet t), shape-of (leafSet t) (membersOf t) members-tree)
+
+  text-is : (s : Shape) → ShapeOf (membersOf t) s → leafText t ≡ textBytes s
+  text-is s k = ap textBytes (sym (shape-is (leafSet t) (membersOf t) members-tree s k))
 
 -- ---- the line
 
 module _ (l : List ℕ) (d : ℕ) where
   line-answered : (room : List ℕ)
-      → Answered (lineInto l d room) (intoRoom (lineOf l d) room) (length (lineOf l d) ≤ length room) room
+      → Answered (lineInto l d room) (intoRoom (lineOf l d) room) (length (lineOf l d) ≤ length room) (length (lineOf l d))
+      (putInto (lineOf l d) room) room
   unfolding lineInto
   line-answered room = answered-given (lineOf l d) room
 
@@ -174,14 +214,17 @@ demand1 = record {
   read-list = list-answered;
   build = build-answered;
   is-fit = fit-iff narrow narrow-facts;
-  place-of = λ t c capped. place-iff t capped c;
-  place-at = λ t c capped. placeOf-at t capped c;
-  leaf-set = λ t x capped. taxon-iff t capped x;
+  place-of = place-iff;
+  place-at = place-at;
+  place-none = place-none;
+  leaf-set = taxon-iff;
   rescore = rescore-answered;
   drawn-tree = drawn-tree-answered;
   drawn-text = drawn-text-answered;
   tree = tree-answered;
   text = text-answered;
+  text-shape = text-shape;
+  text-is = text-is;
   put = answered-given;
   line = line-answered;
   line-refused = line-refused;

@@ -3,6 +3,8 @@
 mod Answered
 -- the reasons of each operation are its refusals in words
 mod Reasons
+-- the ordered shape of a tree
+mod Shapes
 -- every input has its answer
 pub mod Demand1
 -- a row that is worked out from the rows of its table, in words

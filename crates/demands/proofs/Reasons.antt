@@ -2,7 +2,7 @@
 --     says-reading, reading-none     one record
 --     says-writing, writing-none     one record into a room
 --     says-listing, says-building, building-none     a list
---     fit-iff, row-iff     a table is fit; a cluster has a row
+--     fit-iff     a table is fit
 --     says-rescoring, rescoring-none     a rescoring
 --     says-drawing, drawing-none     what is drawn of a table
 -- Assumes nothing.
@@ -121,7 +121,7 @@ pub fit-iff : (W : Width) → WidthFacts W → (t : Table) → T (isFit W t) ↔
 fit-iff W facts t = (isFit→ W facts t, →isFit W t)
 
 module _ (t : Table) (c : ℕ) where
-  pub row-iff : T (hasRow t c) ↔ HasRow t c
+  row-iff : T (hasRow t c) ↔ HasRow t c
   row-iff =
       let one-of = elem-down-iff (λ (i : ℕ). getD (t .clusters) i 0) (t .rows) c in (
         λ h. let q = one-of .0 (subst (λ (cs : List ℕ). T (elem c cs)) (clusters-are t (t .rows)) h) in (q .0, q .1, sym (q .2)),

@@ -23,7 +23,7 @@ use Rattle.laws.specs.Limits.{Width, narrow, rowCap}
 use Rattle.laws.specs.Lists.{Once, Same}
 use Rattle.laws.specs.Row.{Row}
 use Rattle.trees.specs.Heaviest.{weightOf, tieFirst}
-use Rattle.trees.specs.Built.{rowLength}
+use Rattle.trees.specs.Built.{rowLength, builtTable}
 use Rattle.trees.specs.Rescored.{putScore}
 use Rattle.shapes.specs.Characters.{characters}
 use Rattle.shapes.specs.Decimal.{decimal}
@@ -33,7 +33,7 @@ use Rattle.shapes.specs.Drawn.{ascending}
 use Rattle.answers.specs.declared.refusal.Answer.the-variants.{Done}
 use Rattle.answers.specs.Outcome.{outcomeOf, written}
 use Rattle.cluster.specs.declared.record.Record.{Record}
-use Rattle.cluster.specs.Record.{recordBytes}
+use Rattle.cluster.specs.Record.{recordBytes, rowIn, recordOf, bytesOf}
 use Rattle.cluster.specs.Rule.{KeepsScore}
 use Rattle.cluster.specs.Reading.{zeroRecord, readRecord}
 use Rattle.cluster.specs.Writing.{writeRecord}
@@ -41,18 +41,18 @@ use Rattle.lists.specs.Records.{rowsOf}
 use Rattle.lists.specs.Listing.{listed, readList}
 use Rattle.lists.specs.Accepted.{Bytes, Accepted, HasCluster}
 use Rattle.kept.specs.declared.table.Table.{Table}
-use Rattle.kept.specs.View.{rowAt, resultAt, entryAt, zeroTable}
+use Rattle.kept.specs.View.{rowAt, resultAt, entryAt, tableOf, zeroTable}
 use Rattle.kept.specs.Fit.{isFit}
-use Rattle.kept.specs.Rows.{placeOf, leafSet}
-use Rattle.members.specs.Draw.{leafRow, membersOf, noMembers, drawnTree}
+use Rattle.kept.specs.Rows.{shownRows, placeOf, leafSet}
+use Rattle.members.specs.Draw.{leafRow, membersOf, noMembers, drawnMembers, drawnTree}
 use Rattle.table.specs.Build.{buildTable}
-use Rattle.table.specs.Rescore.{rescoreTable}
+use Rattle.table.specs.Rescore.{newTable, rescoreTable}
 use Rattle.table.specs.Changes.{AcceptedBytes, changeAll, rescoreAll}
 use Rattle.drawing.specs.Built.{listMax}
-use Rattle.drawing.specs.Draw.{drawTree, leafText, noText, drawnText, drawText}
+use Rattle.drawing.specs.Draw.{drawTree, leafText, noText, textAt, drawnText, drawText}
 use Rattle.report.specs.Words.{signed, refusedLine}
 use Rattle.report.specs.Line.{lineCap, lineOf, lineInto}
-use Rattle.demands.specs.Sending.{accept, sentBack, Answered}
+use Rattle.demands.specs.Sending.{accept, sentBack, putInto, Answered}
 use Rattle.demands.specs.Refusals.{Degree, KeepsBytes, KeepsRecord, HasRow, Fit, MayBeDrawn}
 use Rattle.demands.specs.Refusals.{reading, writing, listing, building, rescoring, drawing, intoRoom}
 use Rattle.demands.specs.Trees.{leafSetOf, treesAt, treesOfList, FirstBy, TellsTrees, ShapeOf, printedCount}
@@ -63,33 +63,45 @@ use Rattle.demands.specs.OneOutcome.{OneOutcome}
 
 pub record Demand1 : Type 0 where
   -- records
-  pub read-record : (l : List ℕ) → Answered (readRecord l) (reading l) ((length l ≡ recordBytes) × KeepsBytes l) zeroRecord
-  pub write-record : (r : Record) (room : List ℕ)
-      → Answered (writeRecord r room) (writing r room) (KeepsRecord r × (recordBytes ≤ length room)) room
+  pub read-record : (l : List ℕ) → Answered (readRecord l) (reading l) ((length l ≡ recordBytes) × KeepsBytes l) 0 (recordOf l) zeroRecord
+  pub write-record : (r : Record) (room : List ℕ) → let out = bytesOf narrow (rowIn r) in
+      Answered (writeRecord r room) (writing r room) (KeepsRecord r × (recordBytes ≤ length room)) recordBytes (putInto out room) room
   -- lists
-  pub read-list : (l : List ℕ) → Answered (readList narrow l) (listing narrow l) (Accepted narrow l) (listed [])
-  pub build : (l : List ℕ) (d : ℕ) → Answered (buildTable narrow l d) (building narrow l d) (Degree d × Accepted narrow l) zeroTable
-  -- any table is tested and looked up in: whether it is fit, the row of a cluster, and the taxa of the leaf set
+  pub read-list : (l : List ℕ)
+      → Answered (readList narrow l) (listing narrow l) (Accepted narrow l) 0 (listed (rowsOf narrow l)) (listed [])
+  pub build : (l : List ℕ) (d : ℕ) → let built = tableOf d (builtTable narrow d (rowsOf narrow l)) in
+      Answered (buildTable narrow l d) (building narrow l d) (Degree d × Accepted narrow l) 0 built zeroTable
+  -- any table, of which 128 rows are shown at most: whether it is fit; the row of a cluster, or the number shown where it has none; and
+  -- the taxa of the leaf set
   pub is-fit : (t : Table) → T (isFit narrow t) ↔ Fit narrow t
-  pub place-of : (t : Table) (c : ℕ) → t .rows ≤ rowCap → (placeOf t c < t .rows) ↔ HasRow t c
-  pub place-at : (t : Table) (c : ℕ) → t .rows ≤ rowCap → placeOf t c < t .rows → rowAt t (placeOf t c) .cluster ≡ c
-  pub leaf-set : (t : Table) (x : ℕ) → t .rows ≤ rowCap
-      → T (inside (2 ^ x) (leafSet t)) ↔ ((i : ℕ) × (i < t .rows) × T (inside (2 ^ x) (rowAt t i .cluster)))
+  pub place-of : (t : Table) (c : ℕ) → (placeOf t c < shownRows t) ↔ ((i : ℕ) × (i < shownRows t) × (rowAt t i .cluster ≡ c))
+  pub place-at : (t : Table) (c : ℕ) → placeOf t c < shownRows t → rowAt t (placeOf t c) .cluster ≡ c
+  pub place-none : (t : Table) (c : ℕ) → (placeOf t c < shownRows t → ⊥) → placeOf t c ≡ shownRows t
+  pub leaf-set : (t : Table) (x : ℕ)
+      → T (inside (2 ^ x) (leafSet t)) ↔ ((i : ℕ) × (i < shownRows t) × T (inside (2 ^ x) (rowAt t i .cluster)))
   -- fit tables
   pub rescore : (t : Table) (c : ℕ) (z : ℤ) (s : ℕ)
-      → Answered (rescoreTable narrow t c z s) (rescoring narrow t c z s) (Fit narrow t × HasRow t c × KeepsScore z s) t
-  pub drawn-tree : (t : Table) → Answered (drawnTree narrow t) (drawing narrow t accept) (MayBeDrawn narrow t) noMembers
-  pub drawn-text : (t : Table) → Answered (drawnText narrow t) (drawing narrow t accept) (MayBeDrawn narrow t) noText
+      → Answered (rescoreTable narrow t c z s) (rescoring narrow t c z s) (Fit narrow t × HasRow t c × KeepsScore z s) 0
+      (newTable narrow t c z s) t
+  pub drawn-tree : (t : Table) → Answered (drawnTree narrow t) (drawing narrow t accept) (MayBeDrawn narrow t) 0 (drawnMembers t) noMembers
+  pub drawn-text : (t : Table)
+      → Answered (drawnText narrow t) (drawing narrow t accept) (MayBeDrawn narrow t) (length (leafText t)) (textAt t) noText
   -- tables and rooms
   pub tree : (t : Table) (room : List ℕ) → let out = membersOf t in
-      Answered (drawTree narrow t room) (drawing narrow t (intoRoom out room)) (MayBeDrawn narrow t × (length out ≤ length room)) room
+      Answered (drawTree narrow t room) (drawing narrow t (intoRoom out room)) (MayBeDrawn narrow t × (length out ≤ length room))
+      (length out) (putInto out room) room
   pub text : (t : Table) (room : List ℕ) → let out = leafText t in
-      Answered (drawText narrow t room) (drawing narrow t (intoRoom out room)) (MayBeDrawn narrow t × (length out ≤ length room)) room
+      Answered (drawText narrow t room) (drawing narrow t (intoRoom out room)) (MayBeDrawn narrow t × (length out ≤ length room))
+      (length out) (putInto out room) room
+  -- the text is the print of the one ordered shape of the members
+  pub text-shape : (t : Table) → MayBeDrawn narrow t → (s : Shape) × ShapeOf (membersOf t) s
+  pub text-is : (t : Table) → MayBeDrawn narrow t → (s : Shape) → ShapeOf (membersOf t) s → leafText t ≡ textBytes s
   -- bytes and rooms
-  pub put : (out room : List ℕ) → Answered (written [] out room) (intoRoom out room) (length out ≤ length room) room
+  pub put : (out room : List ℕ)
+      → Answered (written [] out room) (intoRoom out room) (length out ≤ length room) (length out) (putInto out room) room
   -- a list is never refused by the line, which says why the list is
   pub line : (l : List ℕ) (d : ℕ) (room : List ℕ) → let out = lineOf l d in
-      Answered (lineInto l d room) (intoRoom out room) (length out ≤ length room) room
+      Answered (lineInto l d room) (intoRoom out room) (length out ≤ length room) (length out) (putInto out room) room
   pub line-refused : (l : List ℕ) (d n p : ℕ) → building narrow l d n p → (room : List ℕ)
       → lineInto l d room ≡ written [] (refusedLine d (sentBack n p)) room
   pub line-enough : (l : List ℕ) (d : ℕ) (room : List ℕ) → d < 2 ^ 32 → lineCap ≤ length room → lineInto l d room .sent .number ≡ 0
@@ -109,6 +121,9 @@ module _ (W : Width) (d : ℕ) (l : List ℕ) where
 
   module _ (t : Table) where
     pub record RowsTell : Type 0 where
+      -- it holds d, and is fit: its rows ascend, and past them all is zero
+      pub degree : t .degree ≡ d
+      pub fit : Fit W t
       -- there is a row for each record, and no other
       pub listed : (r : Row) → ((i : ℕ) × (i < t .rows) × (rowAt t i ≡ r)) ↔ Mem r rows
       -- no tree is counted twice: none stands in the list of trees twice, nor as another list of the same clusters
@@ -142,19 +157,21 @@ module _ (W : Width) (d : ℕ) (l : List ℕ) where
       pub tree-enough : (room : List ℕ) → listMax W ≤ length room → drawTree W t room .sent .number ≢ 11
       pub text-enough : (room : List ℕ) → W .textBytes ≤ length room → drawText W t room .sent .number ≢ 11
 
--- the line of an accepted list, in every room
-abbrev pub LineIs : ℕ → List ℕ → List ℕ → Type 0
-LineIs d l bytes = (room : List ℕ) → lineInto l d room ≡ written [] bytes room
+-- the line of an accepted list, asked for in a room
+abbrev pub LineIs : ℕ → List ℕ → List ℕ → List ℕ → Type 0
+LineIs d l bytes room = lineInto l d room ≡ written [] bytes room
 
 pub record Prints (d : ℕ) (l : List ℕ) : Type 0 where
-  pub no-tree : LineIs d l (refusedLine d (sentBack 7 0)) ↔ (treesOfList narrow d l ≡ [])
-  pub never : LineIs d l (refusedLine d (sentBack 8 0)) → ⊥
-  -- d, the count or `many`, the weight and the text
-  pub line : (ys : List ℕ) → FirstTree narrow d l ys → (s : Shape) → ShapeOf ys s → LineIs d l
+  -- 7 where there is no tree, in every room; in a room that is long enough only then, and never 8
+  pub no-tree : treesOfList narrow d l ≡ [] → (room : List ℕ) → LineIs d l (refusedLine d (sentBack 7 0)) room
+  pub only-then : (room : List ℕ) → lineCap ≤ length room → LineIs d l (refusedLine d (sentBack 7 0)) room → treesOfList narrow d l ≡ []
+  pub never : (room : List ℕ) → lineCap ≤ length room → LineIs d l (refusedLine d (sentBack 8 0)) room → ⊥
+  -- else d, the count or `many`, the weight and the text
+  pub line : (ys : List ℕ) → FirstTree narrow d l ys → (s : Shape) → ShapeOf ys s → (room : List ℕ) → LineIs d l
       (decimal d ++ characters " "
       ++ printedCount narrow (length (treesOfList narrow d l)) ++ characters " "
       ++ signed (weightOf (rowsOf narrow l) ys) ++ characters " "
-      ++ textBytes s ++ characters "\n")
+      ++ textBytes s ++ characters "\n") room
   pub enough : (room : List ℕ) → lineCap ≤ length room → lineInto l d room .sent .number ≢ 11
 
 pub record RoundTrips : Type 0 where

@@ -5,11 +5,16 @@
 --     refuse n P rest     n, at position 0, where P holds; else the rest
 --     refuseAt n P rest   n, at the position p where P p holds; else the rest
 --     sentBack n p        what is then sent back: every other number is zero
---     Answered o s A x    the outcome o is a success exactly where A holds, is else the first refusal of s that applies, and leaves x
+--     success n           what a success sends back: how many bytes or numbers there are
+--     putInto out room    the room with this output at its start
+--     Answered o s A n x y     the outcome o is a success exactly where A holds, and then tells n and gives x; else it is the first refusal
+--                         of s that applies, and leaves y
 -- Assumes nothing.
 use mathlib.Core.Path.{_≡_}
 use mathlib.Core.Logic.{_⊎_, _≢_, _↔_}
+use mathlib.Core.List.{List, _++_}
 use Prim.Native.Nat.{ℕ}
+use lib.ListN.{length, drop}
 use Rattle.answers.specs.Refusal.{Sent}
 use Rattle.answers.specs.Outcome.{Outcome}
 
@@ -28,9 +33,17 @@ refuseAt n P rest m p = ((m ≡ n) × P p) ⊎ (((q : ℕ) → P q → ⊥) × r
 abbrev pub sentBack : ℕ → ℕ → Sent
 sentBack n p = record { number = n; position = p; told = 0 }
 
-pub record Answered {A : Type 0} (o : Outcome A) (sends : Sending) (Taken : Type 0) (left : A) : Type 0 where
+abbrev pub success : ℕ → Sent
+success n = record { number = 0; position = 0; told = n }
+
+abbrev pub putInto : List ℕ → List ℕ → List ℕ
+putInto out room = out ++ drop (length out) room
+
+pub record Answered {A : Type 0} (o : Outcome A) (sends : Sending) (Taken : Type 0) (told : ℕ) (handed left : A) : Type 0 where
   -- a success has the number 0
   pub taken : (o .sent .number ≡ 0) ↔ Taken
+  pub tells : o .sent .number ≡ 0 → o .sent ≡ success told
+  pub gives : o .sent .number ≡ 0 → o .given ≡ handed
   -- each refusal is sent back, with its position, exactly where it is the first that applies
   pub refused : (n p : ℕ) → n ≢ 0 → (o .sent ≡ sentBack n p) ↔ sends n p
   -- nothing else is told with a refusal

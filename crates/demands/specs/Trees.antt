@@ -9,7 +9,7 @@
 --     printedCount W n       the number of trees as it is printed
 -- Assumes nothing.
 use mathlib.Core.Path.{_≡_}
-use mathlib.Core.Logic.{_⊎_, _↔_}
+use mathlib.Core.Logic.{_⊎_, _≢_, _↔_}
 use mathlib.Core.Bool.{Bool, cond}
 use mathlib.Core.List.{List, [], List·Memᴰ as Mem}
 use Prim.Native.Nat.{ℕ, _≤_, _<_}
@@ -57,7 +57,10 @@ pub record TellsTrees (W : Width) (rs : List Row) (ts : List (List ℕ)) (v : Re
   -- the count is the number of trees, or the limit
   pub count : length ts ≤ W .countMax → v .count ≡ length ts
   pub limit : W .countMax < length ts → v .count ≡ W .countMax
-  -- best weight and member marks: all zero where there is no tree, else those of the first heaviest
+  -- where there is a tree, there is one that is the first heaviest, and only one
+  pub first : ts ≢ [] → (ys : List ℕ) × FirstBy tieFirst rs ts ys
+  pub only : (ys zs : List ℕ) → FirstBy tieFirst rs ts ys → FirstBy tieFirst rs ts zs → ys ≡ zs
+  -- best weight and member marks are its; all zero where there is no tree
   pub none : ts ≡ [] → (v .best ≡ pos 0) × (v .members ≡ 0)
   pub best : (ys : List ℕ) → FirstBy tieFirst rs ts ys → v .best ≡ weightOf rs ys
   pub members : (ys : List ℕ) → FirstBy tieFirst rs ts ys → v .members ≡ marksOf (clustersOf rs) ys

@@ -20,7 +20,7 @@ use Rattle.laws.specs.Cluster.{single}
 use Rattle.laws.specs.Limits.{Width}
 use Rattle.laws.specs.Lists.{keep, any}
 use Rattle.laws.specs.Row.{Row, isScored}
-use Rattle.trees.specs.Rows.{sc}
+use Rattle.trees.specs.Rows.{cl, sc}
 use Rattle.trees.specs.Tuple.{tuples}
 use Rattle.trees.specs.Heaviest.{tieFirst}
 use Rattle.trees.specs.Result.{Result, blank}
@@ -78,6 +78,11 @@ module _ (W : Width) (t : Table) (i : ℕ) where
     -- marked by a tuple with no zero count and a marked one, or past the limit
     pub many : T (isMany (W .countMax) (tuplesAt t i)) → (result .mark ≡ 1) × (result .count ≡ W .countMax)
     pub exact : (T (isMany (W .countMax) (tuplesAt t i)) → ⊥) → (result .mark ≡ 0) × (result .count ≡ sumCounts (tuplesAt t i))
+    -- the rows of a tuple have no member in common, and different tuples have different sets
+    pub parted : (τ : List Beneath) → Mem τ (liveAt t i) → (e x : Beneath) → Mem e τ → Mem x τ → cl e ≢ cl x
+        → (c : ℕ) → Mem c (markedSet all (e .val .members)) → Mem c (markedSet all (x .val .members)) → ⊥
+    pub sets : (σ τ : List Beneath) → Mem σ (liveAt t i) → Mem τ (liveAt t i) → joinedSet all σ ≡ joinedSet all τ → σ ≡ τ
+    -- no tuple is left, or one is chosen
     pub none : liveAt t i ≡ [] → (result .best ≡ pos 0) × (result .members ≡ 0)
     pub chosen : liveAt t i ≢ [] → (τ : List Beneath) × Chosen τ
 

@@ -1,6 +1,5 @@
 -- What is drawn of a built table, in words: demand 2 of tree and text.
 --     room-told         putting something into a room succeeds, or is refused 11
---     shape-of, shape-is     a tree has an ordered shape, and one only
 --     tree-on           the first heaviest tree is a tree on the leaf set
 --     draws             the built table of a list draws its first heaviest tree
 -- Assumes nothing.
@@ -23,7 +22,7 @@ use Rattle.shapes.specs.Shape.{Shape}
 use Rattle.shapes.specs.Text.{textBytes}
 use Rattle.shapes.specs.Drawn.{ascending, shapeOf, textOf}
 use Rattle.shapes.specs.Nests.{TreeOn}
-use Rattle.shapes.proofs.Theorems.{trees-on, shape-ordered, shape-clusters, shape-once, shape-only}
+use Rattle.shapes.proofs.Theorems.{trees-on, shape-only}
 use Rattle.answers.specs.Outcome.{Outcome, written}
 use Rattle.answers.proofs.Laws.Outcome.{written-short, written-whole}
 use Rattle.lists.specs.Records.{rowsOf}
@@ -31,12 +30,13 @@ use Rattle.kept.specs.declared.table.Table.{Table}
 use Rattle.table.proofs.Laws.Build.{Buildable}
 use Rattle.drawing.specs.Draw.{drawTree, drawText}
 use Rattle.drawing.specs.Built.{builtFrom, listMax}
-use Rattle.drawing.proofs.LeafTree.{first-tree, leaf-best}
+use Rattle.drawing.proofs.LeafTree.{leaf-best}
 use Rattle.drawing.proofs.DrawnTables.{drawTree-none, drawText-none, drawTree-is, drawText-is, drawTree-fits, drawText-fits}
 use Rattle.demands.specs.Demands.{FirstTree, DrawsTrees}
 use Rattle.demands.specs.Sending.{sentBack}
-use Rattle.demands.specs.Trees.{leafSetOf, treesOfList, ShapeOf}
-use Rattle.demands.proofs.Drawn.First.{found→, →found}
+use Rattle.demands.specs.Trees.{leafSetOf, treesOfList}
+use Rattle.demands.proofs.Shapes.{shape-of, shape-is}
+use Rattle.demands.proofs.Drawn.First.{→found, first-some}
 
 -- ---- into a room
 
@@ -54,15 +54,6 @@ never n p h out room e = go (room-told out room)
     go : (written [] out room .sent .number ≡ 0) ⊎ (written [] out room .sent .number ≡ 11) → ⊥
     go (inl z) = omega (arith, z, e)
     go (inr z) = omega (arith, z, e)
-
--- ---- the shape of a tree
-
-module _ (C : ℕ) (ys : List ℕ) (tree : TreeOn ys C) where
-  pub shape-of : ShapeOf ys (shapeOf (size C) ys C)
-  shape-of = record { ordered = shape-ordered ys C tree; once = shape-once ys C tree; vertices = shape-clusters ys C tree }
-
-  pub shape-is : (s : Shape) → ShapeOf ys s → s ≡ shapeOf (size C) ys C
-  shape-is s k = shape-only ys C tree s (k .ordered) (k .once) (k .vertices)
 
 -- ---- what is drawn
 
@@ -154,7 +145,7 @@ module _ (W : Width) (facts : WidthFacts W) (d : ℕ) (l : List ℕ) (k : Builda
     no-text = λ room. by-seven (drawText W t room) textFor room (text-none room) (text-drawn room);
     tree-never = λ room. by-eight (drawTree W t room) ascending room (tree-none room) (tree-drawn room);
     text-never = λ room. by-eight (drawText W t room) textFor room (text-none room) (text-drawn room);
-    first = λ n. let q = first-tree W facts d rs k n in (q .0, found→ (W .taxa) d rs (k .facts) C (q .0) (q .1));
+    first = first-some (W .taxa) d rs (k .facts) C;
     only = λ ys zs f g. Option·some-injective ys zs (sym (found ys f) ∙ found zs g);
     best = λ ys f. leaf-best W facts d rs k ys (found ys f) .1;
     tree = λ ys f room. tree-drawn room ys (found ys f);

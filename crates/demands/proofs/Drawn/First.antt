@@ -1,11 +1,12 @@
 -- The one tree that is drawn, in words and by the definition that a row is stated with: `firstHeaviest`.
 --     found→, →found      a set is the first heaviest by weight and tie rule exactly where it is what is found
+--     first-some          where there is a tree, one is
 --     tells               the results of a row whose cluster has the trees ts, in words
 -- Assumes nothing.
 use mathlib.Core.Path.{_≡_, refl, sym, ap, _∙_, subst}
-use mathlib.Core.Logic.{_⊎_, inl, inr, _↔_}
+use mathlib.Core.Logic.{_⊎_, inl, inr, _≢_, _↔_}
 use mathlib.Core.Bool.{not, _&&_}
-use mathlib.Core.Option.{Option, none, some}
+use mathlib.Core.Option.{Option, none, some, Option·some-injective}
 use mathlib.Core.List.{List, []}
 use mathlib.Core.List.{List·Memᴰ as Mem}
 use Prim.Native.Nat.{ℕ, _≤_, _<_}
@@ -24,7 +25,7 @@ use Rattle.trees.specs.Heaviest.{weightOf, tieFirst, comesFirst, firstHeaviest}
 use Rattle.trees.specs.Result.{Result, countField, markField, marksOf}
 use Rattle.trees.specs.Built.{withBest, treeResult}
 use Rattle.trees.proofs.Counting.Capped.{past, count-small, count-large}
-use Rattle.trees.proofs.Theorems.{best-is-tree, best-heaviest, best-first, best-only}
+use Rattle.trees.proofs.Theorems.{none-iff, best-is-tree, best-heaviest, best-first, best-only}
 use Rattle.demands.specs.Trees.{FirstBy, TellsTrees}
 
 -- ---- the first heaviest, in words
@@ -67,6 +68,13 @@ module _ (w d : ℕ) (rs : List Row) (f : RowFacts w rs) (C : ℕ) where
       go zs m (Tri.less l) = inr (or-l (ltZ (weightOf rs zs) (weightOf rs ys)) _ l)
       go zs m (Tri.same q) = ahead zs q (k .first zs m q)
       go zs m (Tri.more l) = absurd (k .heaviest zs m l)
+
+  pub first-some : trees ≢ [] → (ys : List ℕ) × FirstBy tieFirst rs trees ys
+  first-some n = go (firstHeaviest rs trees) refl
+    where
+      go : (x : Option (List ℕ)) → firstHeaviest rs trees ≡ x → (ys : List ℕ) × FirstBy tieFirst rs trees ys
+      go none e = absurd (n (none-iff w d rs f C .0 e))
+      go (some ys) e = (ys, found→ ys e)
 
 -- ---- what a row tells
 
@@ -117,12 +125,15 @@ module _ (W : Width) (rs : List Row) (n : ℕ) (ts : List (List ℕ)) where
       let q : told ≡ treeResult W rs n [] = ap (treeResult W rs n) e in
       (ap (λ (v : Result). v .best) q, ap (λ (v : Result). v .members) q)
 
-  pub tells : ((ys : List ℕ) → FirstBy tieFirst rs ts ys → firstHeaviest rs ts ≡ some ys) → TellsTrees W rs ts (treeResult W rs n ts)
-  tells found = record {
+  pub tells : ((ys : List ℕ) → FirstBy tieFirst rs ts ys → firstHeaviest rs ts ≡ some ys)
+      → (ts ≢ [] → (ys : List ℕ) × FirstBy tieFirst rs ts ys) → TellsTrees W rs ts (treeResult W rs n ts)
+  tells found first = record {
     many = mark-one;
     exact = mark-none;
     count = λ h. exact h .0;
     limit = λ h. many h .0;
+    first = first;
+    only = λ ys zs k j. Option·some-injective ys zs (sym (found ys k) ∙ found zs j);
     none = by-none;
     best = λ ys k. by-found ys (found ys k) .0;
     members = λ ys k. by-found ys (found ys k) .1;

@@ -1,5 +1,5 @@
 -- Printed lines told apart by their bytes, and the count as it is printed.
---     written-inj       what is put into every room is one
+--     written-same      what is put into a room that is long enough for the one is one
 --     tree-not-refused, seven-not-eight     no line of a tree is that of a refusal, and that of 7 isn't that of 8
 --     count-printed     the count and mark of a row, as they are printed
 -- Assumes nothing.
@@ -7,11 +7,11 @@ use mathlib.Core.Path.{_≡_, refl, sym, ap, ap₂, _∙_, subst}
 use mathlib.Core.Logic.{_⊎_, inl, inr, _≢_}
 use mathlib.Core.Bool.{Bool, true, false, cond}
 use mathlib.Core.List.{List, [], _∷_, _++_, append-assoc}
-use Prim.Native.Nat.{ℕ, _+_, _≤_, _<_}
+use Prim.Native.Nat.{ℕ, _≤_, _<_}
 use native.Mathlib.Omega.{arith}
 use lib.Dec.{T, eqb, leb, leb→le, le→leb}
 use lib.IntN.{ℤ}
-use lib.ListN.{length, getD, take, drop, replicate, length-replicate}
+use lib.ListN.{length, getD, take, drop}
 use lib.Seq.{take-append-seam, drop-append-seam}
 use Rattle.laws.specs.Limits.{narrow}
 use Rattle.laws.specs.Lists.{every}
@@ -24,29 +24,27 @@ use Rattle.shapes.specs.Decimal.{figure, decimal}
 use Rattle.shapes.proofs.Decimal.{isFigure, decimal-figures, decimal-some, decimal-one}
 use Rattle.answers.specs.declared.refusal.Answer.the-variants.{Done}
 use Rattle.answers.specs.Outcome.{Outcome, outcomeOf, written}
-use Rattle.answers.proofs.Laws.Outcome.{written-whole}
+use Rattle.answers.proofs.Laws.Outcome.{written-whole, written-accepts-iff}
 use Rattle.report.specs.Words.{signed, countWord, placeWord, refusedLine, treeLine}
 use Rattle.report.proofs.Laws.Words.{countWord-one, countWord-many}
 use Rattle.demands.specs.Sending.{sentBack}
 use Rattle.demands.specs.Trees.{TellsTrees, printedCount}
 
--- ---- what is put into every room
+-- ---- what is put into a room
 
-pub written-inj : (x y : List ℕ) → ((room : List ℕ) → written [] x room ≡ written [] y room) → x ≡ y
-written-inj x y same =
+pub written-same : (x y room : List ℕ) → length x ≤ length room → written [] x room ≡ written [] y room → x ≡ y
+written-same x y room h same =
     sym (take-append-seam x (drop (length x) room)) ∙ ap₂ take lengths rooms ∙ take-append-seam y (drop (length y) room)
   where
-    room : List ℕ
-    room = replicate (length x + length y) 0
+    first : written [] x room ≡ outcomeOf (Done (length x)) (x ++ drop (length x) room)
+    first = written-whole [] x room refl h
 
-    long : length room ≡ length x + length y
-    long = length-replicate (length x + length y) 0
-
-    whole : (z : List ℕ) → length z ≤ length x + length y → written [] z room ≡ outcomeOf (Done (length z)) (z ++ drop (length z) room)
-    whole z h = written-whole [] z room refl (omega (arith, long))
+    -- a success, so there is room for the other too
+    fits : length y ≤ length room
+    fits = written-accepts-iff [] y room .0 (ap (λ (o : Outcome (List ℕ)). o .sent .number) (sym same ∙ first)) .1
 
     both : outcomeOf (Done (length x)) (x ++ drop (length x) room) ≡ outcomeOf (Done (length y)) (y ++ drop (length y) room)
-    both = sym (whole x (omega arith)) ∙ same room ∙ whole y (omega arith)
+    both = sym first ∙ same ∙ written-whole [] y room refl fits
 
     lengths : length x ≡ length y
     lengths = ap (λ (o : Outcome (List ℕ)). o .sent .told) both

@@ -50,8 +50,9 @@ use Rattle.demands.specs.Sending.{sentBack}
 use Rattle.demands.specs.Trees.{leafSetOf, treesOfList, TellsTrees, ShapeOf, printedCount}
 use Rattle.demands.proofs.Drawn.First.{→found}
 use Rattle.demands.proofs.Drawn.Told.{rows-tell}
-use Rattle.demands.proofs.Drawn.Draws.{shape-is, tree-on}
-use Rattle.demands.proofs.Drawn.LineBytes.{written-inj, tree-not-refused, seven-not-eight, count-printed}
+use Rattle.demands.proofs.Shapes.{shape-is}
+use Rattle.demands.proofs.Drawn.Draws.{tree-on}
+use Rattle.demands.proofs.Drawn.LineBytes.{written-same, tree-not-refused, seven-not-eight, count-printed}
 
 -- ---- the line of an accepted list
 
@@ -76,11 +77,14 @@ module _ (l : List ℕ) (d : ℕ) (degree : T (isDegree d)) (a : AcceptedBytes n
   line-is : tableLine d t ≡ lineOf l d
   line-is = built-done l d built refl
 
-  says : (bytes : List ℕ) → lineOf l d ≡ bytes → LineIs d l bytes
+  says : (bytes : List ℕ) → lineOf l d ≡ bytes → (room : List ℕ) → LineIs d l bytes room
   says bytes e room = sym (line-put l d room) ∙ ap (λ (x : List ℕ). written [] x room) e
 
-  said : (bytes : List ℕ) → LineIs d l bytes → lineOf l d ≡ bytes
-  said bytes f = written-inj (lineOf l d) bytes (λ room. line-put l d room ∙ f room)
+  fits : (room : List ℕ) → lineCap ≤ length room → length (lineOf l d) ≤ length room
+  fits room h = let most = degree-range {d = d} degree .1 in le-trans (line-length-le l d (omega arith)) h
+
+  said : (bytes room : List ℕ) → lineCap ≤ length room → LineIs d l bytes room → lineOf l d ≡ bytes
+  said bytes room h e = written-same (lineOf l d) bytes room (fits room h) (line-put l d room ∙ e)
 
   -- ---- by whether there is a tree
 
@@ -141,14 +145,14 @@ module _ (l : List ℕ) (d : ℕ) (degree : T (isDegree d)) (a : AcceptedBytes n
 
   enough : (room : List ℕ) → lineCap ≤ length room → lineInto l d room .sent .number ≢ 11
   enough room h e =
-      let most = degree-range {d = d} degree .1 in
-      let done = written-whole [] (lineOf l d) room refl (le-trans (line-length-le l d (omega arith)) h) in
+      let done = written-whole [] (lineOf l d) room refl (fits room h) in
       omega (arith, e, ap (λ (o : Outcome (List ℕ)). o .sent .number) (sym (line-put l d room) ∙ done))
 
   pub prints : Prints d l
   prints = record {
-    no-tree = (λ e. no-tree (said (refusedLine d (sentBack 7 0)) e), λ n. says (refusedLine d (sentBack 7 0)) (none-line n));
-    never = λ e. never-eight (said (refusedLine d (sentBack 8 0)) e);
+    no-tree = λ n. says (refusedLine d (sentBack 7 0)) (none-line n);
+    only-then = λ room h e. no-tree (said (refusedLine d (sentBack 7 0)) room h e);
+    never = λ room h e. never-eight (said (refusedLine d (sentBack 8 0)) room h e);
     line = λ ys f s p. says _ (tree-line ys f s p);
     enough = enough;
   }

@@ -29,12 +29,14 @@ use Rattle.trees.proofs.Sets.TreeFacts.{Given}
 use Rattle.lists.specs.Records.{rowsOf}
 use Rattle.kept.specs.declared.table.Table.{Table}
 use Rattle.kept.specs.View.{rowAt, resultAt}
+use Rattle.kept.proofs.Laws.Fit.{isFit→}
+use Rattle.table.proofs.Fitting.FitTables.{built-fit}
 use Rattle.table.proofs.Laws.Build.{Buildable}
 use Rattle.drawing.specs.Built.{builtFrom}
 use Rattle.drawing.proofs.LeafRow.{rows-are, row-at, leaf-set-is, leaf-result, leaf-listed}
 use Rattle.demands.specs.Demands.{RowsTell}
 use Rattle.demands.specs.Trees.{leafSetOf, treesAt, treesOfList, TellsTrees}
-use Rattle.demands.proofs.Drawn.First.{→found, tells}
+use Rattle.demands.proofs.Drawn.First.{→found, first-some, tells}
 
 module _ (W : Width) (facts : WidthFacts W) (d : ℕ) (l : List ℕ) (k : Buildable W d (rowsOf W l)) where
   abbrev rs : List Row
@@ -69,7 +71,9 @@ module _ (W : Width) (facts : WidthFacts W) (d : ℕ) (l : List ℕ) (k : Builda
       (tree-of given C ys n .0) (λ c i. rw (map-id ys) (same .to c i)) (λ c i. rw (map-id xs) (same .from c i))
 
   row-tells : (r : Row) → TellsTrees W rs (treesAt W d l (r .cluster)) (builtResult W d rs r)
-  row-tells r = tells W rs (rowLength d rs r) (treesAt W d l (r .cluster)) (→found (W .taxa) d rs (k .facts) (r .cluster))
+  row-tells r =
+      let C = r .cluster in
+      tells W rs (rowLength d rs r) (treesAt W d l C) (→found (W .taxa) d rs (k .facts) C) (first-some (W .taxa) d rs (k .facts) C)
 
   with-length : (n c m : ℕ) (x : Option (List ℕ)) → withBest rs n c m x .length ≡ n
   with-length n c m none = refl
@@ -81,6 +85,8 @@ module _ (W : Width) (facts : WidthFacts W) (d : ℕ) (l : List ℕ) (k : Builda
 
   pub rows-tell : RowsTell W d l (builtFrom W d (rowsOf W l))
   rows-tell = record {
+    degree = refl;
+    fit = isFit→ W facts t (built-fit W facts d rs k);
     listed = listed;
     once = trees-once;
     sets = trees-sets;
@@ -89,6 +95,7 @@ module _ (W : Width) (facts : WidthFacts W) (d : ℕ) (l : List ℕ) (k : Builda
     leaves = leaf-set-is W facts d rs k;
     leaf = λ h. let q = leaf-result W facts d rs k h in
         subst (TellsTrees W rs (treesOfList W d l)) (sym (q .1))
-        (tells W rs (q .0) (treesOfList W d l) (→found (W .taxa) d rs (k .facts) (leafSetOf W l)));
+        (tells W rs (q .0) (treesOfList W d l) (→found (W .taxa) d rs (k .facts) (leafSetOf W l))
+        (first-some (W .taxa) d rs (k .facts) (leafSetOf W l)));
     no-leaf = λ n. nil-of-none (treesOfList W d l) (λ xs m. n (leaf-listed W facts d rs k xs m));
   }

@@ -2,7 +2,7 @@
 --     worked-row     the row is as the rules' formulas say
 -- Assumes nothing.
 use mathlib.Core.Path.{_≡_, refl, sym, ap, _∙_, subst, subst₂}
-use mathlib.Core.Logic.{_⊎_, inl, inr, _↔_}
+use mathlib.Core.Logic.{_⊎_, inl, inr, _≢_, _↔_}
 use mathlib.Core.Bool.{Bool, true, false, not, cond, _&&_}
 use mathlib.Core.Option.{Option, none, some}
 use mathlib.Core.List.{List, map, Memᴰ·cast, Memᴰ·map}
@@ -21,7 +21,7 @@ use Rattle.laws.proofs.Appended.{map-through}
 use Rattle.laws.proofs.Down.{down-mem}
 use Rattle.laws.proofs.Falling.{keep-only}
 use Rattle.laws.proofs.Keep.{mem-keep, mem-of-keep, keep-map}
-use Rattle.laws.proofs.Tests.{T-or, or-l, or-r, eq→eqb, cond-true, cond-false}
+use Rattle.laws.proofs.Tests.{bool-ext, T-or, or-l, or-r, eq→eqb, cond-true, cond-false}
 use Rattle.trees.specs.Rows.{scoredIn, cl, sc}
 use Rattle.trees.specs.Tuple.{isTuple, tuples}
 use Rattle.trees.specs.Heaviest.{tieFirst}
@@ -35,12 +35,13 @@ use Rattle.trees.proofs.Ties.KeyOrder.{Before, heavier, level, →before}
 use Rattle.trees.proofs.Ties.Marks.{marks-join, marks-inj}
 use Rattle.trees.proofs.Ties.TieRule.{tie-is-marks}
 use Rattle.kept.specs.declared.table.Table.{Table}
+use Rattle.kept.specs.Marks.{isMarkedIn}
 use Rattle.kept.specs.View.{rowAt, resultAt, entryAt, entriesOf, clustersIn}
 use Rattle.table.proofs.Fitting.FitTables.{FitRows}
 use Rattle.demands.specs.Worked.{tuplesAt, liveAt, markedSet, joinedSet, sumBests, Chosen, Joined, WorkedRow}
 use Rattle.demands.proofs.Worked.Keys.{Found, nothing, leads, found, dead-sum, dead-many}
 use Rattle.demands.proofs.Worked.Standing.{fit-full}
-use Rattle.demands.proofs.Worked.Tuples.{memberIn, set-of-marks, Live, live→, key-is, member-other, same-members}
+use Rattle.demands.proofs.Worked.Tuples.{memberIn, set-of-marks, Live, live→, key-is, no-common, member-other, same-members}
 
 -- ---- the row length
 
@@ -168,11 +169,25 @@ module _ (W : Width) (u : Table) (fit : FitRows W (u .degree) (entriesOf u (u .r
       with-key : {o : Option Key} → firstKey (map keyOf (liveAt u i)) ≡ o → resultAt u i ≡ joined W cs r (length τs) τs o
       with-key q = e ∙ ap (joined W cs r (length τs) τs) q
 
+      parted : (τ : List Beneath) → Mem τ (liveAt u i) → (e x : Beneath) → Mem e τ → Mem x τ → cl e ≢ cl x
+          → (c : ℕ) → Mem c (markedSet cs (e .val .members)) → Mem c (markedSet cs (x .val .members)) → ⊥
+      parted τ m e x j k n c p q =
+          no-common W (u .degree) es fit C τ (living τ m) e x j k n c (mem-of-keep (isMarkedIn cs (e .val .members)) cs p .1)
+          (mem-of-keep (isMarkedIn cs (x .val .members)) cs q .1)
+
+      sets : (σ τ : List Beneath) → Mem σ (liveAt u i) → Mem τ (liveAt u i) → joinedSet cs σ ≡ joinedSet cs τ → σ ≡ τ
+      sets σ τ m k q =
+          same-members W (u .degree) es fit C σ τ (living σ m) (living τ k) (λ c j. bool-ext (held σ c) (held τ c)
+          (λ h. mem-of-keep (held τ) cs (subst (Mem c) q (mem-keep (held σ) cs j h)) .1)
+          (λ h. mem-of-keep (held σ) cs (subst (Mem c) (sym q) (mem-keep (held τ) cs j h)) .1))
+
       go : Found (liveAt u i) → Joined W u i
       go (nothing n) =
           let q = with-key (ap (λ (σs : List (List Beneath)). firstKey (map keyOf σs)) n) in record {
             many = λ h. absurd (dead-many τs n limit h);
             exact = λ _. (ap (λ (v : Result). v .mark) q, ap (λ (v : Result). v .count) q ∙ sym (dead-sum τs n));
+            parted = parted;
+            sets = sets;
             none = λ _. (ap (λ (v : Result). v .best) q, ap (λ (v : Result). v .members) q);
             chosen = λ f. absurd (f n);
           }
@@ -186,6 +201,8 @@ module _ (W : Width) (u : Table) (fit : FitRows W (u .degree) (entriesOf u (u .r
               ap (λ (v : Result). v .mark) q ∙ cond-false (isMany limit τs) 1 0 f,
               ap (λ (v : Result). v .count) q ∙ cond-false (isMany limit τs) limit (sumCounts τs) f,
             );
+            parted = parted;
+            sets = sets;
             none = λ n. absurd (mem-nil (subst (Mem τ) n m));
             chosen = λ _. (τ, chosen τ m before (ap (λ (v : Result). v .best) q) (ap (λ (v : Result). v .members) q));
           }

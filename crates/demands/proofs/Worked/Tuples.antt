@@ -3,6 +3,7 @@
 --     set-of-marks         the clusters that the marks of a family mark are the family's
 --     Live es d C τ        a tuple of C without a zero count; live→ reads it out of the list of them
 --     key-is               its key is the sum of bests and the marks of its members
+--     no-common            two rows of it have no member in common
 --     member-other         no member is C
 --     same-members         two such tuples with the same members are equal
 -- Assumes nothing.
@@ -118,6 +119,18 @@ module _ (W : Width) (d : ℕ) (es : List Beneath) (k : FitRows W d es) where
         let q = Memᴰ·of-map cl τ m in
         nonzero c (subst (λ (x : ℕ). Mem x (map cl es)) (q .2)
         (marked-mem (map cl es) (q .0 .val .members) (cl (q .0)) (f .part (q .0) (q .1) .own)))
+
+    -- two rows of a tuple have no member in common
+    pub no-common : (τ : List Beneath) → Live es d C τ → (e x : Beneath) → Mem e τ → Mem x τ → cl e ≢ cl x → (c : ℕ)
+        → T (isMarkedIn (map cl es) (e .val .members) c) → T (isMarkedIn (map cl es) (x .val .members) c) → ⊥
+    no-common τ f e x m n other c s u =
+        go (apart-of-tuple (map cl τ) (tuple→ d C (map cl τ) (f .tuple) .apart) (cl e) (cl x) (Memᴰ·map cl m) (Memᴰ·map cl n))
+      where
+        go : (cl e ≡ cl x) ⊎ T (apart (cl e) (cl x)) → ⊥
+        go (inl q) = other q
+        go (inr a) =
+            nonzero c (marked-mem (map cl es) (e .val .members) c s)
+            (zero-of-apart c (apart-of-inside (cl e) (cl x) c c a (f .part e m .within c s) (f .part x n .within c u)))
 
     pub member-other : (τ : List Beneath) → Live es d C τ → (c : ℕ) → T (memberIn es τ c) → c ≢ C
     member-other τ f c t e =
