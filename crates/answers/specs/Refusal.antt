@@ -41,7 +41,7 @@ pub record Sent : Type 0 where
   -- the refusal's number and position, both 0 on a success
   pub number : ℕ
   pub position : ℕ
-  -- how many bytes or numbers a success wrote; 0 on a refusal
+  -- how many bytes or numbers a success wrote, or has in its text; 0 on a refusal
   pub told : ℕ
 
 abbrev pub sentOf : Answer → Sent

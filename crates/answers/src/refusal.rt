@@ -10,7 +10,7 @@ ghost use Rattle.answers.specs.Refusal.{numberOf, positionOf};
 pub enum Refusal {
     // 1: the list has no bytes.
     NoBytes,
-    // 2: the length isn't a multiple of 12; for one record, isn't 12.
+    // 2: a list that isn't whole records, or one record of another length.
     WrongLength,
     // 3: the list is longer than its limit.
     TooLong,

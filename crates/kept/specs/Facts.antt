@@ -38,10 +38,10 @@ pub record Ranged (W : Width) (r : Row) (v : Result) : Type 0 where
 pub record Matched (cs : List ℕ) (r : Row) (v : Result) : Type 0 where
   -- no mark stands past the rows
   pub below : v .members < 2 ^ length cs
-  -- count zero: no member is marked, and mark and best weight are zero
+  -- a count of zero: no member, mark or best weight
   pub none : v .count ≡ 0 → (v .members ≡ 0) × (v .mark ≡ 0) × (v .best ≡ pos 0)
-  -- else the row itself is marked, every marked row's cluster lies inside it, and the best weight is within 1,000,000 times (2t - 1) of
-  -- zero, t being its taxa
+  -- any other: the row is its own member, no member lies outside it, and the best weight is no further from zero than the members of a tree
+  -- on so many taxa can bring it
   pub own : v .count ≢ 0 → T (isMarkedIn cs (v .members) (r .cluster))
   pub inner : v .count ≢ 0 → T (everyMarked cs (v .members) (λ (c : ℕ). inside c (r .cluster)))
   pub light : v .count ≢ 0 → natAbs (v .best) ≤ weightMax * (2 * size (r .cluster) - 1)

@@ -33,8 +33,8 @@ isRanged W r v =
 abbrev pub isLight : ℤ → ℕ → Bool
 isLight z n = isWithin (weightMax * (2 * n - 1)) z
 
--- count zero exactly when no member is marked, and then mark and best are zero; else the row itself is marked, every marked row's
--- cluster lies inside it, and the best weight is one that a tree on so many taxa can have
+-- a count of zero: no member, mark or best weight; any other: the row is its own member, no member lies outside it, and the best weight is
+-- one that a tree on so many taxa can have
 abbrev pub isMatched : List ℕ → Row → Result → Bool
 isMatched cs r v =
     cond (eqb (v .count) 0)

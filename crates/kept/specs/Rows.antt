@@ -1,7 +1,7 @@
 -- Looking up rows in a table of any value: rows past 128 are none. Laws: `proofs/Laws/Rows.antt`.
 --     shownRows t          how many rows there are to look at
 --     placeAmong cs n c    the first of the first n places at which cs has c; n where none has
---     placeOf t c          the row of the cluster c: the number of rows where it has none
+--     placeOf t c          the row of the cluster c: the number of rows to look at where it has none
 --     leafSet t            the leaf set of a table: the union of its rows' clusters
 --     hasRow t c           a row of the table has the cluster c
 -- Assumes nothing.

@@ -44,7 +44,7 @@ together W d cs r t =
     joined W cs r (length (tuples d (r .cluster) (counted t))) (tuples d (r .cluster) (summed r t))
     (firstKey (map keyOf (keep isLive (tuples d (r .cluster) (summed r t)))))
 
--- unscored gives zero results; a scored single taxon gives count 1, itself and its weight
+-- an unscored row has no result; a single taxon that is scored is one tree, itself
 abbrev pub workedOut : Width → ℕ → List ℕ → Row → List Beneath → Result
 workedOut W d cs r t = cond (isScored r) (cond (single (r .cluster)) (alone cs r) (together W d cs r t)) blank
 
