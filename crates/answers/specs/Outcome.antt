@@ -3,6 +3,7 @@
 --     Outcome A                 what is sent back, and what is given: a record, a table, a room afterwards
 --     outcomeOf a x             the code's answer a and what it gave, in these terms
 --     ended f stays n given     refused f: this stays; else n is told, and this is given
+--     putInto out l             the room l with this output at its start; past it, it is untouched
 --     written rs out l          the output put at the start of the room l, unless one of the reasons applies, or last the room is too
 --                               short; room past the output is untouched
 -- Assumes nothing.
@@ -30,6 +31,9 @@ module _ {A : Type 0} where
   ended (some f) stays n given = outcomeOf (Refused f) stays
   ended none stays n given = outcomeOf (Done n) given
 
+abbrev pub putInto : List ℕ → List ℕ → List ℕ
+putInto out l = out ++ drop (length out) l
+
 abbrev pub written : List Reason → List ℕ → List ℕ → Outcome (List ℕ)
 written rs out l =
-    ended (firstReason (rs ++ (when (ltb (length l) (length out)) NoRoom ∷ []))) l (length out) (out ++ drop (length out) l)
+    ended (firstReason (rs ++ (when (ltb (length l) (length out)) NoRoom ∷ []))) l (length out) (putInto out l)

@@ -2,6 +2,7 @@
 --     readingOf r       the code's reading as an outcome
 --     zeroRecord        the record that is all zero: the record read on a refusal
 --     ruleOf W l        the rule that the bytes of a record break first
+--     KeepsBytes W l    they keep the rules, as facts
 --     readReasons l     why reading one record is refused: 2 unless exactly 12 bytes are given, then 5
 --     readRecord l      what reading the bytes l gives
 -- Assumes nothing.
@@ -19,7 +20,7 @@ use Rattle.cluster.specs.declared.rule.Rule.{Rule}
 use Rattle.answers.specs.Outcome.{Outcome, outcomeOf, ended}
 use Rattle.answers.specs.Reasons.{Reason, when, firstReason}
 use Rattle.cluster.specs.Record.{recordBytes, rowOf, recordOf, hasSpare}
-use Rattle.cluster.specs.Rule.{brokenRule, isKept}
+use Rattle.cluster.specs.Rule.{brokenRule, isKept, Keeps}
 
 abbrev pub readingOf : Reading → Outcome Record
 readingOf r = outcomeOf (r .answer) (r .«record»)
@@ -29,6 +30,9 @@ zeroRecord = record { cluster = 0; weight = pos 0; state = 0 }
 
 abbrev pub ruleOf : Width → List ℕ → Rule
 ruleOf W l = let r = rowOf W l in brokenRule (r .cluster) (r .weight) (r .state) (hasSpare W l)
+
+abbrev pub KeepsBytes : Width → List ℕ → Type 0
+KeepsBytes W l = let r = rowOf W l in Keeps (r .cluster) (r .weight) (r .state) (hasSpare W l)
 
 abbrev pub readReasons : List ℕ → List Reason
 readReasons l = when (not (eqb (length l) recordBytes)) WrongLength ∷ when (not (isKept (ruleOf narrow l))) (BadRecord 0) ∷ []

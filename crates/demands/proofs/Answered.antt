@@ -21,18 +21,18 @@ use Prim.Native.Nat.{ℕ, _≤_}
 use lib.Dec.{T, ltb, ltb→lt, lt→ltb, T-not, not-T}
 use lib.ListN.{length}
 use Rattle.laws.proofs.Tests.{T-of-not}
-use Rattle.answers.specs.declared.refusal.Answer.the-variants.{Refused}
+use Rattle.answers.specs.declared.refusal.Answer.the-variants.{Done, Refused}
 use Rattle.answers.specs.declared.refusal.Refusal.{Refusal}
 use Rattle.answers.specs.declared.refusal.Refusal.the-variants.{NoRoom}
 use Rattle.answers.specs.Refusal.{numberOf, positionOf, Sent, sentOf}
 use Rattle.answers.specs.Reasons.{Reason, when, firstReason, First, NoneApplies}
-use Rattle.answers.specs.Outcome.{Outcome, ended, written}
+use Rattle.answers.specs.Outcome.{Outcome, ended, putInto, written}
 use Rattle.answers.proofs.Laws.Reasons.{first-iff}
 use Rattle.answers.proofs.Laws.Refusal.{number-pos}
 use Rattle.answers.proofs.Laws.Outcome.{accepts-iff, refuses-iff, written-accepts-iff}
 use Rattle.demands.specs.Sending as words
-use Rattle.demands.specs.Sending.{Sending, accept, sentBack, success, putInto, Answered}
-use Rattle.demands.specs.Refusals.{intoRoom}
+use Rattle.demands.specs.Sending.{Sending, accept, sentBack, Answered}
+use Rattle.demands.specs.Refusals.{roomRefusals}
 
 -- ---- reasons in words
 
@@ -95,7 +95,7 @@ module _ (out room : List ℕ) where
   abbrev pub noRoom : List Reason
   noRoom = when (ltb (length room) (length out)) NoRoom ∷ []
 
-  pub says-room : Says noRoom (intoRoom out room)
+  pub says-room : Says noRoom (roomRefusals out room)
   says-room =
       says-when (ltb (length room) (length out)) NoRoom refl
       (ltb→lt (length room) (length out), lt→ltb (length room) (length out)) (λ _. says-none)
@@ -133,7 +133,7 @@ module _ {A : Type 0} (rs : List Reason) (stays : A) (n : ℕ) (given : A) where
           let k = says .told m p .1 s in
           refuses-iff rs stays n given (k .0) .1 (k .1) ∙ refusal-is (k .0) (k .2) (k .3)
 
-      tells : (o : Option Refusal) → end o .sent .number ≡ 0 → end o .sent ≡ success n
+      tells : (o : Option Refusal) → end o .sent .number ≡ 0 → end o .sent ≡ sentOf (Done n)
       tells (some f) e = absurd (number-pos f e)
       tells none e = refl
 
@@ -166,7 +166,8 @@ module _ (out room : List ℕ) where
       answered (rs ++ noRoom out room) room (length out) whole says
       (λ h. let k = both .0 h in (iff .0 (k .0), k .1), λ h. both .1 (iff .1 (h .0), h .1))
 
-  pub answered-given : Answered (written [] out room) (intoRoom out room) (length out ≤ length room) (length out) (putInto out room) room
+  pub answered-given :
+      Answered (written [] out room) (roomRefusals out room) (length out ≤ length room) (length out) (putInto out room) room
   answered-given =
       let both = room-iff [] in
       answered (noRoom out room) room (length out) whole (says-room out room) (λ h. both .0 h .1, λ h. both .1 (tt, h))

@@ -6,27 +6,23 @@ use mathlib.Core.Logic.{_↔_}
 use mathlib.Core.Option.{Option}
 use mathlib.Core.List.{List, []}
 use Prim.Native.Nat.{ℕ, _^_, _≤_, _<_}
-use native.Mathlib.Decide.{decLt}
-use native.Mathlib.Nat.{le-trans, le-antisymm}
-use native.Mathlib.Omega.{arith}
-use lib.Dec.{T, eqb→eq, ltb→lt}
+use native.Mathlib.Nat.{le-trans}
+use lib.Dec.{T}
 use lib.IntN.{ℤ}
 use lib.ListN.{length, getD}
 use Rattle.laws.specs.Cluster.{inside, size}
-use Rattle.laws.specs.Limits.{narrow}
+use Rattle.laws.specs.Limits.{narrow, isDegree}
 use Rattle.laws.proofs.Cluster.{inside-trans, inside-unionOf, taxon-of-unionOf}
 use Rattle.laws.proofs.Down.{mem-down, down-mem}
-use Rattle.laws.proofs.First.{first-high, first-at, unfound-iff}
-use Rattle.laws.proofs.Tests.{true-T, eq→eqb}
 use Rattle.laws.proofs.Width.{narrow-facts}
 use Rattle.answers.specs.declared.refusal.Refusal.{Refusal}
 use Rattle.answers.specs.Refusal.{Sent}
-use Rattle.answers.specs.Outcome.{written}
+use Rattle.answers.specs.Outcome.{putInto, written}
 use Rattle.answers.proofs.Laws.Reasons.{first-iff, none-iff}
 use Rattle.cluster.specs.declared.record.Record.{Record}
 use Rattle.cluster.specs.Record.{recordBytes, rowIn, recordOf, bytesOf}
 use Rattle.cluster.specs.Rule.{KeepsScore}
-use Rattle.cluster.specs.Reading.{zeroRecord, readReasons, readRecord}
+use Rattle.cluster.specs.Reading.{KeepsBytes, zeroRecord, readReasons, readRecord}
 use Rattle.cluster.specs.Writing.{writeReasons, writeRecord}
 use Rattle.lists.specs.Records.{rowsOf}
 use Rattle.lists.specs.Listing.{listed, listReasons, readList}
@@ -34,8 +30,9 @@ use Rattle.lists.specs.Accepted.{Accepted}
 use Rattle.lists.proofs.Theorems.{accepted-iff}
 use Rattle.kept.specs.declared.table.Table.{Table}
 use Rattle.kept.specs.View.{rowAt, clustersDown, tableOf, zeroTable}
-use Rattle.kept.specs.Rows.{shownRows, placeOf, leafSet}
-use Rattle.kept.proofs.Laws.Rows.{isClusterAt}
+use Rattle.kept.specs.Facts.{FitTable}
+use Rattle.kept.specs.Rows.{shownRows, leafSet}
+use Rattle.kept.proofs.Laws.Rows.{place-at, place-none, place-iff}
 use Rattle.trees.specs.Built.{builtTable}
 use Rattle.shapes.specs.Shape.{Shape}
 use Rattle.shapes.specs.Text.{textBytes}
@@ -50,9 +47,10 @@ use Rattle.drawing.proofs.Laws.Draw.{tree-on}
 use Rattle.report.specs.Words.{refusedLine}
 use Rattle.report.specs.Line.{lineCap, lineFor, tableLine, lineOf, lineInto}
 use Rattle.report.proofs.Laws.Line.{line-length-le, line-put}
-use Rattle.demands.specs.Sending.{accept, sentBack, putInto, Answered}
-use Rattle.demands.specs.Refusals.{Degree, KeepsBytes, KeepsRecord, HasRow, Fit, MayBeDrawn}
-use Rattle.demands.specs.Refusals.{reading, writing, listing, building, rescoring, drawing, intoRoom}
+use Rattle.demands.specs.Sending.{accept, sentBack, Answered}
+use Rattle.demands.specs.Refusals.{KeepsRecord, HasRow, MayBeDrawn}
+use Rattle.demands.specs.Refusals.{readRefusals, writeRefusals, listRefusals, buildRefusals}
+use Rattle.demands.specs.Refusals.{rescoreRefusals, drawRefusals, roomRefusals}
 use Rattle.demands.specs.Trees.{ShapeOf}
 use Rattle.demands.specs.Demands.{Demand1}
 use Rattle.demands.proofs.Shapes.{shape-of, shape-is}
@@ -62,12 +60,13 @@ use Rattle.demands.proofs.Reasons.{building-none, fit-iff, says-rescori
 
 -- ---- records
 
-read-answered : (l : List ℕ) → Answered (readRecord l) (reading l) ((length l ≡ recordBytes) × KeepsBytes l) 0 (recordOf l) zeroRecord
+read-answered : (l : List ℕ)
+    → Answered (readRecord l) (readRefusals l) ((length l ≡ recordBytes) × KeepsBytes narrow l) 0 (recordOf l) zeroRecord
 unfolding readRecord
 read-answered l = answered (readReasons l) zeroRecord 0 (recordOf l) (says-reading l) (reading-none l)
 
 write-answered : (r : Record) (room : List ℕ) → let out = bytesOf narrow (rowIn r) in
-    Answered (writeRecord r room) (writing r room) (KeepsRecord r × (recordBytes ≤ length room)) recordBytes (putInto out room) room
+    Answered (writeRecord r room) (writeRefusals r room) (KeepsRecord r × (recordBytes ≤ length room)) recordBytes (putInto out room) room
 unfolding writeRecord
 write-answered r room =
     let out = bytesOf narrow (rowIn r) in
@@ -75,13 +74,14 @@ write-answered r room =
 
 -- ---- lists
 
-list-answered : (l : List ℕ) → Answered (readList narrow l) (listing narrow l) (Accepted narrow l) 0 (listed (rowsOf narrow l)) (listed [])
+list-answered : (l : List ℕ)
+    → Answered (readList narrow l) (listRefusals narrow l) (Accepted narrow l) 0 (listed (rowsOf narrow l)) (listed [])
 unfolding readList
 list-answered l =
     answered (listReasons narrow l) (listed []) 0 (listed (rowsOf narrow l)) (says-listing narrow l) (accepted-iff narrow l)
 
 build-answered : (l : List ℕ) (d : ℕ) → let built = tableOf d (builtTable narrow d (rowsOf narrow l)) in
-    Answered (buildTable narrow l d) (building narrow l d) (Degree d × Accepted narrow l) 0 built zeroTable
+    Answered (buildTable narrow l d) (buildRefusals narrow l d) (T (isDegree d) × Accepted narrow l) 0 built zeroTable
 unfolding buildTable
 build-answered l d =
     answered (buildReasons narrow l d) zeroTable 0 (tableOf d (builtTable narrow d (rowsOf narrow l)))
@@ -92,25 +92,6 @@ build-answered l d =
 module _ (t : Table) where
   abbrev shown : ℕ
   shown = shownRows t
-
-  place-at : (c : ℕ) → placeOf t c < shown → rowAt t (placeOf t c) .cluster ≡ c
-  place-at c h = eqb→eq (rowAt t (placeOf t c) .cluster) c (true-T (first-at (isClusterAt (t .clusters) c) 0 shown (omega (arith, h))))
-
-  place-none : (c : ℕ) → (placeOf t c < shown → ⊥) → placeOf t c ≡ shown
-  place-none c n = le-antisymm (omega (arith, first-high (isClusterAt (t .clusters) c) 0 shown)) (not-lt (decLt (placeOf t c) shown))
-    where
-      not-lt : Dec (placeOf t c < shown) → shown ≤ placeOf t c
-      not-lt (yes h) = absurd (n h)
-      not-lt (no f) = omega arith
-
-  place-iff : (c : ℕ) → (placeOf t c < shown) ↔ ((i : ℕ) × (i < shown) × (rowAt t i .cluster ≡ c))
-  place-iff c = (λ h. (placeOf t c, h, place-at c h), λ q. go q (decLt (placeOf t c) shown))
-    where
-      go : (i : ℕ) × (i < shown) × (rowAt t i .cluster ≡ c) → Dec (placeOf t c < shown) → placeOf t c < shown
-      go q (yes h) = h
-      go q (no f) =
-          let none = unfound-iff (isClusterAt (t .clusters) c) shown .0 (λ h. f (ltb→lt (placeOf t c) shown h)) (q .0) (q .1) in
-          absurd (subst T none (eq→eqb (rowAt t (q .0) .cluster) c (q .2)))
 
   taxon-iff : (x : ℕ) → T (inside (2 ^ x) (leafSet t)) ↔ ((i : ℕ) × (i < shown) × T (inside (2 ^ x) (rowAt t i .cluster)))
   taxon-iff x = (to, from)
@@ -128,7 +109,7 @@ module _ (t : Table) where
           inside-trans (2 ^ x) c (leafSet t) (q .2) (inside-unionOf (clustersDown (t .clusters) shown) c m)
 
 rescore-answered : (t : Table) (c : ℕ) (z : ℤ) (s : ℕ)
-    → Answered (rescoreTable narrow t c z s) (rescoring narrow t c z s) (Fit narrow t × HasRow t c × KeepsScore z s) 0
+    → Answered (rescoreTable narrow t c z s) (rescoreRefusals narrow t c z s) (FitTable narrow t × HasRow t c × KeepsScore z s) 0
     (newTable narrow t c z s) t
 unfolding rescoreTable
 rescore-answered t c z s =
@@ -136,14 +117,14 @@ rescore-answered t c z s =
     (rescoring-none t c narrow narrow-facts z s)
 
 module _ (t : Table) where
-  drawn-tree-answered : Answered (drawnTree narrow t) (drawing narrow t accept) (MayBeDrawn narrow t) 0 (drawnMembers t) noMembers
+  drawn-tree-answered : Answered (drawnTree narrow t) (drawRefusals narrow t accept) (MayBeDrawn narrow t) 0 (drawnMembers t) noMembers
   unfolding drawnTree
   drawn-tree-answered =
       answered (drawReasons narrow t) noMembers 0 (drawnMembers t)
       (says-drawing narrow narrow-facts t says-none) (drawing-none narrow narrow-facts t)
 
   drawn-text-answered :
-      Answered (drawnText narrow t) (drawing narrow t accept) (MayBeDrawn narrow t) (length (leafText t)) (textAt t) noText
+      Answered (drawnText narrow t) (drawRefusals narrow t accept) (MayBeDrawn narrow t) (length (leafText t)) (textAt t) noText
   unfolding drawnText
   drawn-text-answered =
       answered (drawReasons narrow t) noText (length (leafText t)) (textAt t)
@@ -151,18 +132,19 @@ module _ (t : Table) where
 
   -- whatever is drawn, into a room
   drawing-answered : (out room : List ℕ) → Answered (written (drawReasons narrow t) out room)
-      (drawing narrow t (intoRoom out room)) (MayBeDrawn narrow t × (length out ≤ length room)) (length out) (putInto out room) room
+      (drawRefusals narrow t (roomRefusals out room)) (MayBeDrawn narrow t × (length out ≤ length room))
+      (length out) (putInto out room) room
   drawing-answered out room =
       answered-room out room (drawReasons narrow t)
       (says-drawing narrow narrow-facts t (says-room out room)) (drawing-none narrow narrow-facts t)
 
   module _ (room : List ℕ) where
-    tree-answered : Answered (drawTree narrow t room) (drawing narrow t (intoRoom (membersOf t) room))
+    tree-answered : Answered (drawTree narrow t room) (drawRefusals narrow t (roomRefusals (membersOf t) room))
         (MayBeDrawn narrow t × (length (membersOf t) ≤ length room)) (length (membersOf t)) (putInto (membersOf t) room) room
     unfolding drawTree
     tree-answered = drawing-answered (membersOf t) room
 
-    text-answered : Answered (drawText narrow t room) (drawing narrow t (intoRoom (leafText t) room))
+    text-answered : Answered (drawText narrow t room) (drawRefusals narrow t (roomRefusals (leafText t) room))
         (MayBeDrawn narrow t × (length (leafText t) ≤ length room)) (length (leafText t)) (putInto (leafText t) room) room
     unfolding drawText
     text-answered = drawing-answered (leafText t) room
@@ -178,6 +160,10 @@ module _ (t : Table) (h : MayBeDrawn narrow t) where
   text-shape : (s : Shape) × ShapeOf (membersOf t) s
   text-shape = (shapeOf (size (leafSet t)) (membersOf t) (leafSet t), shape-of (leafSet t) (membersOf t) members-tree)
 
+  shape-only : (s u : Shape) → ShapeOf (membersOf t) s → ShapeOf (membersOf t) u → s ≡ u
+  shape-only s u k j =
+      shape-is (leafSet t) (membersOf t) members-tree s k ∙ sym (shape-is (leafSet t) (membersOf t) members-tree u j)
+
   text-is : (s : Shape) → ShapeOf (membersOf t) s → leafText t ≡ textBytes s
   text-is s k = ap textBytes (sym (shape-is (leafSet t) (membersOf t) members-tree s k))
 
@@ -185,12 +171,12 @@ module _ (t : Table) (h : MayBeDrawn narrow t) where
 
 module _ (l : List ℕ) (d : ℕ) where
   line-answered : (room : List ℕ)
-      → Answered (lineInto l d room) (intoRoom (lineOf l d) room) (length (lineOf l d) ≤ length room) (length (lineOf l d))
+      → Answered (lineInto l d room) (roomRefusals (lineOf l d) room) (length (lineOf l d) ≤ length room) (length (lineOf l d))
       (putInto (lineOf l d) room) room
   unfolding lineInto
   line-answered room = answered-given (lineOf l d) room
 
-  refused-line : (n p : ℕ) → building narrow l d n p → lineOf l d ≡ refusedLine d (sentBack n p)
+  refused-line : (n p : ℕ) → buildRefusals narrow l d n p → lineOf l d ≡ refusedLine d (sentBack n p)
   unfolding lineOf
   refused-line n p h =
       let k = says-building narrow l d .told n p .1 h in
@@ -198,7 +184,7 @@ module _ (l : List ℕ) (d : ℕ) where
       ap (λ (o : Option Refusal). lineFor d o built) (first-iff (buildReasons narrow l d) (k .0) .1 (k .1))
       ∙ ap (λ (s : Sent). refusedLine d s) (refusal-is (k .0) (k .2) (k .3))
 
-  line-refused : (n p : ℕ) → building narrow l d n p → (room : List ℕ)
+  line-refused : (n p : ℕ) → buildRefusals narrow l d n p → (room : List ℕ)
       → lineInto l d room ≡ written [] (refusedLine d (sentBack n p)) room
   line-refused n p h room = sym (line-put l d room) ∙ ap (λ (out : List ℕ). written [] out room) (refused-line n p h)
 
@@ -224,6 +210,7 @@ demand1 = record {
   tree = tree-answered;
   text = text-answered;
   text-shape = text-shape;
+  shape-only = shape-only;
   text-is = text-is;
   put = answered-given;
   line = line-answered;

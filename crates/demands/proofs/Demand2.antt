@@ -22,7 +22,7 @@ use Rattle.table.proofs.Laws.Build.{Buildable, buildable}
 use Rattle.table.proofs.Theorems.{built-table}
 use Rattle.drawing.specs.Built.{builtFrom}
 use Rattle.demands.specs.Demands.{RowsTell, DrawsTrees, RoundTrips, Demand2}
-use Rattle.demands.proofs.Demand3.{fresh, degree-in}
+use Rattle.demands.proofs.Demand3.{fresh}
 use Rattle.demands.proofs.Drawn.Told.{rows-tell}
 use Rattle.demands.proofs.Drawn.Draws.{draws}
 use Rattle.demands.proofs.Drawn.Lines.{prints}
@@ -44,9 +44,9 @@ round-trips = record {
 
 pub demand2 : Demand2
 demand2 = record {
-  rows = λ l d xs a q. after-changes narrow-facts l d (degree-in d q) xs a (RowsTell narrow d) (rows-tell narrow narrow-facts d);
-  drawn = λ l d xs a q. after-changes narrow-facts l d (degree-in d q) xs a (DrawsTrees narrow d) (draws narrow narrow-facts d);
-  printed = λ l d a q. prints l d (degree-in d q) a;
+  rows-tell = λ l d xs a q. after-changes narrow-facts l d q xs a (RowsTell narrow d) (rows-tell narrow narrow-facts d);
+  draws = λ l d xs a q. after-changes narrow-facts l d q xs a (DrawsTrees narrow d) (draws narrow narrow-facts d);
+  prints = λ l d a q. prints l d q a;
   rooms = (refl, refl, refl);
-  records = round-trips;
+  round-trips = round-trips;
 }

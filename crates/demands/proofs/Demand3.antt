@@ -1,6 +1,5 @@
 -- DEMAND 3 IS MET: a rescored table is the fresh build of the changed list, and what a rescoring leaves alone.
 --     fresh        over any width: after any changes the table is the build of the changed list
---     degree-in    a degree bound, as the code tests it
 --     demand3      the demand
 -- Assumes nothing.
 use mathlib.Core.Path.{_≡_, refl, sym, ap, _∙_, subst}
@@ -15,7 +14,7 @@ use Rattle.laws.specs.Limits.{Width, narrow, isDegree, rowCap}
 use Rattle.laws.specs.Row.{Row}
 use Rattle.laws.specs.Widths.{WidthFacts}
 use Rattle.laws.proofs.Tests.{T-false, T-of-not}
-use Rattle.laws.proofs.Width.{narrow-facts, degree-of}
+use Rattle.laws.proofs.Width.{narrow-facts}
 use Rattle.answers.specs.declared.refusal.Refusal.{Refusal}
 use Rattle.answers.specs.Reasons.{firstReason}
 use Rattle.answers.specs.Outcome.{Outcome, ended}
@@ -28,7 +27,7 @@ use Rattle.trees.specs.Rescored.{rescored}
 use Rattle.kept.specs.declared.table.Table.{Table}
 use Rattle.kept.specs.View.{entryAt, entriesOf, clustersIn}
 use Rattle.kept.specs.Fit.{isFit}
-use Rattle.kept.proofs.Laws.Blank.{empty→blank, blank-entry}
+use Rattle.kept.proofs.Laws.Blank.{blank-entry}
 use Rattle.kept.proofs.Laws.Fit.{isFit→}
 use Rattle.kept.proofs.Laws.View.{table-past}
 use Rattle.table.specs.Build.{buildTable}
@@ -39,7 +38,6 @@ use Rattle.table.proofs.Changing.Rescore.{rescore-of}
 use Rattle.table.proofs.Changing.RescoredTables.{rescore-keeps-others}
 use Rattle.table.proofs.Theorems.{built-rescores-iff, rescore-all-is-build}
 use Rattle.demands.specs.Demands.{Demand3}
-use Rattle.demands.specs.Refusals.{Degree}
 use Rattle.demands.proofs.Worked.Standing.{new-count}
 
 -- ---- what any rescoring leaves alone
@@ -64,7 +62,7 @@ module _ (W : Width) (t : Table) (c : ℕ) (z : ℤ) (s : ℕ) where
   new-past : WidthFacts W → (i : ℕ) → t .rows ≤ i → i < rowCap → T (isFit W t) → entryAt (newTable W t c z s) i ≡ entryAt t i
   new-past facts i h m fit =
       blank-entry (newTable W t c z s) i (table-past (t .degree) changed i (omega (arith, new-count W t c z s)))
-      ∙ sym (blank-entry t i (empty→blank t i (isFit→ W facts t fit .blank i h m)))
+      ∙ sym (isFit→ W facts t fit .past i h m)
 
 -- ---- the demand
 
@@ -83,13 +81,10 @@ module _ {W : Width} (facts : WidthFacts W) {l : List ℕ} (d : ℕ) (degree : T
         λ q. same ∙ by .1 (q .0, score-iff z s .1 (q .1)),
       )
 
-pub degree-in : (d : ℕ) → Degree d → T (isDegree d)
-degree-in d q = degree-of {d = d} (q .0) (q .1)
-
 pub demand3 : Demand3
 demand3 = record {
-  fresh = λ l d xs a q. fresh narrow-facts d (degree-in d q) xs a;
-  taken = λ l d xs c z s a q. takes narrow-facts d (degree-in d q) xs a c z s;
+  fresh = λ l d xs a q. fresh narrow-facts d q xs a;
+  taken = λ l d xs c z s a q. takes narrow-facts d q xs a c z s;
   others = λ t c z s i h n. rescore-keeps-others narrow t c z s i h (T-false _ n);
   degree = λ t c z s. handed-back narrow t c z s (λ u. u .degree ≡ t .degree) refl (λ _. refl);
   rows = λ t c z s. handed-back narrow t c z s (λ u. u .rows ≡ t .rows) refl (λ _. new-count narrow t c z s);

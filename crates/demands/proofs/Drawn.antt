@@ -1,4 +1,6 @@
 -- Demand 2, in the order in which it builds up.
+-- the list of all trees
+mod Every
 -- the one tree that is drawn, and what a row tells
 pub mod First
 -- what the rows of a built table tell

@@ -11,9 +11,7 @@ use mathlib.Core.Logic.{_↔_}
 use mathlib.Core.Bool.{Bool, false, not, _&&_}
 use mathlib.Core.List.{List, _++_}
 use Prim.Native.Nat.{ℕ, _%_, _≤_, _<_}
-use native.Mathlib.Decide.{decLe}
 use native.Mathlib.Nat.{le-trans}
-use native.Mathlib.Omega.{arith}
 use lib.Dec.{T, eqb, ltb, eqb→eq, ltb→lt}
 use lib.IntN.{ℤ}
 use lib.ListN.{length, getD}
@@ -24,7 +22,6 @@ use Rattle.laws.specs.Widths.{WidthFacts}
 use Rattle.laws.proofs.Down.{elem-down-iff}
 use Rattle.laws.proofs.Keep.{every→, →every}
 use Rattle.laws.proofs.Tests.{T-and, and-T, true-T, eq→eqb}
-use Rattle.laws.proofs.Width.{degree-range, degree-of}
 use Rattle.trees.specs.Tree.{isTree}
 use Rattle.answers.specs.declared.refusal.Refusal.the-variants.{NoBytes, WrongLength, TooLong, DegreeOut, BadRecord, Repeated}
 use Rattle.answers.specs.declared.refusal.Refusal.the-variants.{NoTree, Unfit, NoRow, BadScore}
@@ -32,7 +29,7 @@ use Rattle.answers.specs.Reasons.{Reason, NoneApplies}
 use Rattle.cluster.specs.declared.record.Record.{Record}
 use Rattle.cluster.specs.Record.{recordBytes, rowOf, hasSpare}
 use Rattle.cluster.specs.Rule.{brokenRule, isKept, isScore, KeepsScore}
-use Rattle.cluster.specs.Reading.{ruleOf, readReasons}
+use Rattle.cluster.specs.Reading.{ruleOf, KeepsBytes, readReasons}
 use Rattle.cluster.specs.Writing.{writeReasons}
 use Rattle.cluster.proofs.Theorems.{kept-iff, score-iff}
 use Rattle.lists.specs.Accepted.{Accepted}
@@ -43,8 +40,9 @@ use Rattle.lists.proofs.Theorems.{accepted-iff}
 use Rattle.kept.specs.declared.table.Table.{Table}
 use Rattle.kept.specs.View.{rowAt}
 use Rattle.kept.specs.Fit.{isFit}
+use Rattle.kept.specs.Facts.{FitTable}
 use Rattle.kept.specs.Rows.{shownRows, leafSet, hasRow}
-use Rattle.kept.proofs.Laws.Clusters.{clusters-are, Ascends}
+use Rattle.kept.proofs.Laws.Clusters.{clusters-are, rises-once}
 use Rattle.kept.proofs.Laws.Fit.{isFit→, →isFit}
 use Rattle.kept.proofs.Laws.Rows.{placeOf-at, hasRow-is}
 use Rattle.members.specs.Marked.{isSame, weightTo}
@@ -54,8 +52,8 @@ use Rattle.table.specs.Build.{buildReasons}
 use Rattle.table.specs.Rescore.{rescoreReasons}
 use Rattle.demands.specs.Sending as words
 use Rattle.demands.specs.Sending.{Sending}
-use Rattle.demands.specs.Refusals.{Degree, KeepsBytes, KeepsRecord, Fit, HasRow, HasTree, MarksTree, MayBeDrawn}
-use Rattle.demands.specs.Refusals.{reading, listing, building, rescoring, drawing}
+use Rattle.demands.specs.Refusals.{KeepsRecord, HasRow, HasTree, MarksTree, MayBeDrawn}
+use Rattle.demands.specs.Refusals.{readRefusals, listRefusals, buildRefusals, rescoreRefusals, drawRefusals}
 use Rattle.demands.proofs.Answered.{Says, says-none, says-when, says-at, says-unless, passes-iff}
 
 -- ---- records
@@ -64,15 +62,15 @@ module _ (l : List ℕ) where
   length-iff : T (eqb (length l) recordBytes) ↔ (length l ≡ recordBytes)
   length-iff = (eqb→eq (length l) recordBytes, eq→eqb (length l) recordBytes)
 
-  bytes-iff : T (isKept (ruleOf narrow l)) ↔ KeepsBytes l
+  bytes-iff : T (isKept (ruleOf narrow l)) ↔ KeepsBytes narrow l
   bytes-iff = let r = rowOf narrow l in kept-iff (r .cluster) (r .weight) (r .state) (hasSpare narrow l)
 
-  pub says-reading : Says (readReasons l) (reading l)
+  pub says-reading : Says (readReasons l) (readRefusals l)
   says-reading =
       says-unless (eqb (length l) recordBytes) length-iff WrongLength refl
       (λ _. says-unless (isKept (ruleOf narrow l)) bytes-iff (BadRecord 0) refl (λ _. says-none))
 
-  pub reading-none : NoneApplies (readReasons l) ↔ ((length l ≡ recordBytes) × KeepsBytes l)
+  pub reading-none : NoneApplies (readReasons l) ↔ ((length l ≡ recordBytes) × KeepsBytes narrow l)
   reading-none =
       let whole = passes-iff (eqb (length l) recordBytes) length-iff in
       let kept = passes-iff (isKept (ruleOf narrow l)) bytes-iff in
@@ -95,7 +93,7 @@ module _ (r : Record) where
 -- ---- lists
 
 module _ (W : Width) (l : List ℕ) where
-  pub says-listing : Says (listReasons W l) (listing W l)
+  pub says-listing : Says (listReasons W l) (listRefusals W l)
   says-listing =
       says-when (eqb (length l) 0) NoBytes refl (empty-iff W l)
       (λ _. says-when (ltb (W .listBytes) (length l)) TooLong refl (long-iff W l)
@@ -104,20 +102,17 @@ module _ (W : Width) (l : List ℕ) where
       (says-at (ltb (firstRepeat W l) (recordsIn W l)) Repeated (firstRepeat W l) (λ p. refl) (repeated-iff W l) says-none))))
 
   module _ (d : ℕ) where
-    degree-iff : T (isDegree d) ↔ Degree d
-    degree-iff = (λ t. degree-range t, λ h. degree-of (h .0) (h .1))
+    pub says-building : Says (buildReasons W l d) (buildRefusals W l d)
+    says-building = says-unless (isDegree d) (λ h. h, λ h. h) DegreeOut refl (λ _. says-listing)
 
-    pub says-building : Says (buildReasons W l d) (building W l d)
-    says-building = says-unless (isDegree d) degree-iff DegreeOut refl (λ _. says-listing)
-
-    pub building-none : NoneApplies (buildReasons W l d) ↔ (Degree d × Accepted W l)
+    pub building-none : NoneApplies (buildReasons W l d) ↔ (T (isDegree d) × Accepted W l)
     building-none =
-        let degree = passes-iff (isDegree d) degree-iff in
+        let degree = passes-iff (isDegree d) (λ h. h, λ h. h) in
         (λ k. (degree .0 (k .0), accepted-iff W l .0 (k .1)), λ h. (degree .1 (h .0), accepted-iff W l .1 (h .1)))
 
 -- ---- rows of a table
 
-pub fit-iff : (W : Width) → WidthFacts W → (t : Table) → T (isFit W t) ↔ Fit W t
+pub fit-iff : (W : Width) → WidthFacts W → (t : Table) → T (isFit W t) ↔ FitTable W t
 fit-iff W facts t = (isFit→ W facts t, →isFit W t)
 
 module _ (t : Table) (c : ℕ) where
@@ -129,13 +124,13 @@ module _ (t : Table) (c : ℕ) where
       )
 
   module _ (W : Width) (facts : WidthFacts W) (z : ℤ) (s : ℕ) where
-    pub says-rescoring : Says (rescoreReasons W t c z s) (rescoring W t c z s)
+    pub says-rescoring : Says (rescoreReasons W t c z s) (rescoreRefusals W t c z s)
     says-rescoring =
         says-unless (isFit W t) (fit-iff W facts t) Unfit refl
         (λ _. says-unless (hasRow t c) row-iff NoRow refl
         (λ _. says-unless (isScore z s) (score-iff z s) BadScore refl (λ _. says-none)))
 
-    pub rescoring-none : NoneApplies (rescoreReasons W t c z s) ↔ (Fit W t × HasRow t c × KeepsScore z s)
+    pub rescoring-none : NoneApplies (rescoreReasons W t c z s) ↔ (FitTable W t × HasRow t c × KeepsScore z s)
     rescoring-none =
         let fit = passes-iff (isFit W t) (fit-iff W facts t) in
         let row = passes-iff (hasRow t c) row-iff in
@@ -144,17 +139,8 @@ module _ (t : Table) (c : ℕ) where
 
 -- ---- what is drawn of a table
 
--- in a fit table no two rows have one cluster
-rises-once : (cs : List ℕ) (n i j : ℕ) → Ascends cs n → i < n → j < n → getD cs i 0 ≡ getD cs j 0 → i ≡ j
-rises-once cs n i j rising a b e = go (decLe i j) (decLe j i)
-  where
-    go : Dec (i ≤ j) → Dec (j ≤ i) → i ≡ j
-    go (yes h) (yes k) = omega arith
-    go (yes h) (no k) = absurd (omega (arith, rising i j (omega arith) b, e))
-    go (no h) k = absurd (omega (arith, rising j i (omega arith) a, e))
-
 module _ (W : Width) (facts : WidthFacts W) (t : Table) where
-  tree-iff : Fit W t → T (hasTree t) ↔ HasTree t
+  tree-iff : FitTable W t → T (hasTree t) ↔ HasTree t
   tree-iff fit = (to, from)
     where
       capped : t .rows ≤ rowCap
@@ -192,7 +178,7 @@ module _ (W : Width) (facts : WidthFacts W) (t : Table) where
           and-T (areScored t && weighsBest t) (isTree (W .taxa) (t .degree) (leafSet t) (membersOf t))
           (and-T (areScored t) (weighsBest t) (→every (λ (i : ℕ). isScored (rowAt t i)) (markedRows t) (m .scored)) same) (m .tree)
 
-  pub says-drawing : {rs : List Reason} {rest : Sending} → Says rs rest → Says (drawReasons W t ++ rs) (drawing W t rest)
+  pub says-drawing : {rs : List Reason} {rest : Sending} → Says rs rest → Says (drawReasons W t ++ rs) (drawRefusals W t rest)
   says-drawing says =
       says-unless (isFit W t) (fit-iff W facts t) Unfit refl
       (λ fit. says-unless (hasTree t) (tree-iff fit) NoTree refl
@@ -205,12 +191,12 @@ module _ (W : Width) (facts : WidthFacts W) (t : Table) where
       to k =
           let fit = passes-iff (isFit W t) (fit-iff W facts t) .0 (k .0) in record {
             fit = fit;
-            counted = passes-iff (hasTree t) (tree-iff fit) .0 (k .1 .0);
-            marked = passes-iff (isDrawable W t) marks-iff .0 (k .1 .1 .0);
+            has-tree = passes-iff (hasTree t) (tree-iff fit) .0 (k .1 .0);
+            is-tree = passes-iff (isDrawable W t) marks-iff .0 (k .1 .1 .0);
           }
 
       from : MayBeDrawn W t → NoneApplies (drawReasons W t)
       from h = (
         passes-iff (isFit W t) (fit-iff W facts t) .1 (h .fit),
-        (passes-iff (hasTree t) (tree-iff (h .fit)) .1 (h .counted), (passes-iff (isDrawable W t) marks-iff .1 (h .marked), tt)),
+        (passes-iff (hasTree t) (tree-iff (h .fit)) .1 (h .has-tree), (passes-iff (isDrawable W t) marks-iff .1 (h .is-tree), tt)),
       )

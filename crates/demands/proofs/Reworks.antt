@@ -18,6 +18,7 @@ use Rattle.trees.proofs.Rescore.{put-cluster}
 use Rattle.kept.specs.declared.table.Table.{Table}
 use Rattle.kept.specs.View.{rowAt}
 use Rattle.kept.specs.Fit.{isFit}
+use Rattle.kept.specs.Facts.{FitTable}
 use Rattle.kept.specs.Rows.{hasRow}
 use Rattle.kept.proofs.Laws.Fit.{isFit→}
 use Rattle.table.specs.Rescore.{newTable, rescoreTable}
@@ -25,7 +26,6 @@ use Rattle.table.proofs.Changing.Rescore.{rescore-done}
 use Rattle.table.proofs.Changing.RescoredTables.{rescore-accepts-iff}
 use Rattle.table.proofs.Fitting.FitTables.{fit-rows, rescored-fit}
 use Rattle.demands.specs.Demands.{Reworks}
-use Rattle.demands.specs.Refusals.{Fit}
 use Rattle.demands.specs.Worked.{WorkedRow}
 use Rattle.demands.proofs.Worked.Standing.{new-count, new-row, new-stands}
 use Rattle.demands.proofs.Worked.Row.{worked-row}
@@ -47,7 +47,7 @@ module _ (W : Width) (t : Table) (c : ℕ) (z : ℤ) (s : ℕ) (taken : rescoreT
     new-fit : T (isFit W (newTable W t c z s))
     new-fit = rescored-fit W facts t c z s (accepted .0) (accepted .2)
 
-    rework-fit : Fit W (rescoreTable W t c z s .given)
+    rework-fit : FitTable W (rescoreTable W t c z s .given)
     rework-fit = isFit→ W facts (rescoreTable W t c z s .given) (subst (λ (u : Table). T (isFit W u)) rework-given new-fit)
 
     rework-row : (i : ℕ) → i < t .rows → T (inside c (rowAt t i .cluster)) → WorkedRow W (rescoreTable W t c z s .given) i
@@ -66,7 +66,7 @@ module _ (W : Width) (t : Table) (c : ℕ) (z : ℤ) (s : ℕ) (taken : rescoreT
 
 pub reworks : Reworks
 reworks = record {
-  scored = rework-scored narrow;
+  new-score = rework-scored narrow;
   worked = λ t c z s e. rework-row narrow t c z s e narrow-facts;
   fit = λ t c z s e. rework-fit narrow t c z s e narrow-facts;
 }

@@ -9,4 +9,4 @@ use Rattle.demands.proofs.Reworks.{reworks}
 use Rattle.demands.proofs.OneOutcome.{one-outcome}
 
 pub demands-met : Demands
-demands-met = record { first = demand1; second = demand2; third = demand3; unbuilt = reworks; only = one-outcome }
+demands-met = record { demand1 = demand1; demand2 = demand2; demand3 = demand3; reworks = reworks; one-outcome = one-outcome }

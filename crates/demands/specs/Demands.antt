@@ -2,8 +2,10 @@
 -- cite. Every request changes this file or leaves it alone. That each is met, for every list of bytes, degree bound, table and room:
 -- `proofs/Theorems.antt`. Its words: `Sending.antt` and `Refusals.antt` (demand 1), `Trees.antt` (demand 2), `Worked.antt`.
 --     Demand1             every input has its answer: success exactly when, each refusal exactly when, and what then stays
+--     FirstTree W d l ys  demand 2: ys is the tree of the list l that is drawn
 --     RowsTell W d l t    demand 2, of each row: the table t tells the trees of the list l
 --     DrawsTrees W d l t  demand 2, of what is drawn of it
+--     LineIs d l x room   what the line of l is, asked for in a room
 --     Prints d l          demand 2, of the printed line
 --     RoundTrips          demand 2, of records
 --     Demand2             all of this for every accepted list, changed or not, with its table, rescored or not
@@ -19,8 +21,7 @@ use lib.Dec.{T}
 use lib.IntN.{ℤ}
 use lib.ListN.{length, take, drop}
 use Rattle.laws.specs.Cluster.{inside}
-use Rattle.laws.specs.Limits.{Width, narrow, rowCap}
-use Rattle.laws.specs.Lists.{Once, Same}
+use Rattle.laws.specs.Limits.{Width, narrow, isDegree, rowCap}
 use Rattle.laws.specs.Row.{Row}
 use Rattle.trees.specs.Heaviest.{weightOf, tieFirst}
 use Rattle.trees.specs.Built.{rowLength, builtTable}
@@ -31,11 +32,11 @@ use Rattle.shapes.specs.Shape.{Shape}
 use Rattle.shapes.specs.Text.{textBytes}
 use Rattle.shapes.specs.Drawn.{ascending}
 use Rattle.answers.specs.declared.refusal.Answer.the-variants.{Done}
-use Rattle.answers.specs.Outcome.{outcomeOf, written}
+use Rattle.answers.specs.Outcome.{outcomeOf, putInto, written}
 use Rattle.cluster.specs.declared.record.Record.{Record}
 use Rattle.cluster.specs.Record.{recordBytes, rowIn, recordOf, bytesOf}
 use Rattle.cluster.specs.Rule.{KeepsScore}
-use Rattle.cluster.specs.Reading.{zeroRecord, readRecord}
+use Rattle.cluster.specs.Reading.{KeepsBytes, zeroRecord, readRecord}
 use Rattle.cluster.specs.Writing.{writeRecord}
 use Rattle.lists.specs.Records.{rowsOf}
 use Rattle.lists.specs.Listing.{listed, readList}
@@ -43,6 +44,7 @@ use Rattle.lists.specs.Accepted.{Bytes, Accepted, HasCluster}
 use Rattle.kept.specs.declared.table.Table.{Table}
 use Rattle.kept.specs.View.{rowAt, resultAt, entryAt, tableOf, zeroTable}
 use Rattle.kept.specs.Fit.{isFit}
+use Rattle.kept.specs.Facts.{FitTable}
 use Rattle.kept.specs.Rows.{shownRows, placeOf, leafSet}
 use Rattle.members.specs.Draw.{leafRow, membersOf, noMembers, drawnMembers, drawnTree}
 use Rattle.table.specs.Build.{buildTable}
@@ -52,10 +54,11 @@ use Rattle.drawing.specs.Built.{listMax}
 use Rattle.drawing.specs.Draw.{drawTree, leafText, noText, textAt, drawnText, drawText}
 use Rattle.report.specs.Words.{signed, refusedLine}
 use Rattle.report.specs.Line.{lineCap, lineOf, lineInto}
-use Rattle.demands.specs.Sending.{accept, sentBack, putInto, Answered}
-use Rattle.demands.specs.Refusals.{Degree, KeepsBytes, KeepsRecord, HasRow, Fit, MayBeDrawn}
-use Rattle.demands.specs.Refusals.{reading, writing, listing, building, rescoring, drawing, intoRoom}
-use Rattle.demands.specs.Trees.{leafSetOf, treesAt, treesOfList, FirstBy, TellsTrees, ShapeOf, printedCount}
+use Rattle.demands.specs.Sending.{accept, sentBack, Answered}
+use Rattle.demands.specs.Refusals.{KeepsRecord, HasRow, MayBeDrawn}
+use Rattle.demands.specs.Refusals.{readRefusals, writeRefusals, listRefusals, buildRefusals}
+use Rattle.demands.specs.Refusals.{rescoreRefusals, drawRefusals, roomRefusals}
+use Rattle.demands.specs.Trees.{leafSetOf, treesAt, treesOfList, EveryTree, FirstBy, TellsTrees, ShapeOf, printedCount}
 use Rattle.demands.specs.Worked.{WorkedRow}
 use Rattle.demands.specs.OneOutcome.{OneOutcome}
 
@@ -63,78 +66,80 @@ use Rattle.demands.specs.OneOutcome.{OneOutcome}
 
 pub record Demand1 : Type 0 where
   -- records
-  pub read-record : (l : List ℕ) → Answered (readRecord l) (reading l) ((length l ≡ recordBytes) × KeepsBytes l) 0 (recordOf l) zeroRecord
+  pub read-record : (l : List ℕ)
+      → Answered (readRecord l) (readRefusals l) ((length l ≡ recordBytes) × KeepsBytes narrow l) 0 (recordOf l) zeroRecord
   pub write-record : (r : Record) (room : List ℕ) → let out = bytesOf narrow (rowIn r) in
-      Answered (writeRecord r room) (writing r room) (KeepsRecord r × (recordBytes ≤ length room)) recordBytes (putInto out room) room
-  -- lists
+      Answered (writeRecord r room) (writeRefusals r room) (KeepsRecord r × (recordBytes ≤ length room)) recordBytes (putInto out room) room
+  -- lists; a check alone sends back what reading does
   pub read-list : (l : List ℕ)
-      → Answered (readList narrow l) (listing narrow l) (Accepted narrow l) 0 (listed (rowsOf narrow l)) (listed [])
+      → Answered (readList narrow l) (listRefusals narrow l) (Accepted narrow l) 0 (listed (rowsOf narrow l)) (listed [])
   pub build : (l : List ℕ) (d : ℕ) → let built = tableOf d (builtTable narrow d (rowsOf narrow l)) in
-      Answered (buildTable narrow l d) (building narrow l d) (Degree d × Accepted narrow l) 0 built zeroTable
+      Answered (buildTable narrow l d) (buildRefusals narrow l d) (T (isDegree d) × Accepted narrow l) 0 built zeroTable
   -- any table, of which 128 rows are shown at most: whether it is fit; the row of a cluster, or the number shown where it has none; and
   -- the taxa of the leaf set
-  pub is-fit : (t : Table) → T (isFit narrow t) ↔ Fit narrow t
+  pub is-fit : (t : Table) → T (isFit narrow t) ↔ FitTable narrow t
   pub place-of : (t : Table) (c : ℕ) → (placeOf t c < shownRows t) ↔ ((i : ℕ) × (i < shownRows t) × (rowAt t i .cluster ≡ c))
   pub place-at : (t : Table) (c : ℕ) → placeOf t c < shownRows t → rowAt t (placeOf t c) .cluster ≡ c
   pub place-none : (t : Table) (c : ℕ) → (placeOf t c < shownRows t → ⊥) → placeOf t c ≡ shownRows t
   pub leaf-set : (t : Table) (x : ℕ)
       → T (inside (2 ^ x) (leafSet t)) ↔ ((i : ℕ) × (i < shownRows t) × T (inside (2 ^ x) (rowAt t i .cluster)))
-  -- fit tables
+  -- tables; what stands in one that is rescored is said below
   pub rescore : (t : Table) (c : ℕ) (z : ℤ) (s : ℕ)
-      → Answered (rescoreTable narrow t c z s) (rescoring narrow t c z s) (Fit narrow t × HasRow t c × KeepsScore z s) 0
+      → Answered (rescoreTable narrow t c z s) (rescoreRefusals narrow t c z s) (FitTable narrow t × HasRow t c × KeepsScore z s) 0
       (newTable narrow t c z s) t
-  pub drawn-tree : (t : Table) → Answered (drawnTree narrow t) (drawing narrow t accept) (MayBeDrawn narrow t) 0 (drawnMembers t) noMembers
+  pub drawn-tree : (t : Table)
+      → Answered (drawnTree narrow t) (drawRefusals narrow t accept) (MayBeDrawn narrow t) 0 (drawnMembers t) noMembers
   pub drawn-text : (t : Table)
-      → Answered (drawnText narrow t) (drawing narrow t accept) (MayBeDrawn narrow t) (length (leafText t)) (textAt t) noText
+      → Answered (drawnText narrow t) (drawRefusals narrow t accept) (MayBeDrawn narrow t) (length (leafText t)) (textAt t) noText
   -- tables and rooms
   pub tree : (t : Table) (room : List ℕ) → let out = membersOf t in
-      Answered (drawTree narrow t room) (drawing narrow t (intoRoom out room)) (MayBeDrawn narrow t × (length out ≤ length room))
+      Answered (drawTree narrow t room) (drawRefusals narrow t (roomRefusals out room)) (MayBeDrawn narrow t × (length out ≤ length room))
       (length out) (putInto out room) room
   pub text : (t : Table) (room : List ℕ) → let out = leafText t in
-      Answered (drawText narrow t room) (drawing narrow t (intoRoom out room)) (MayBeDrawn narrow t × (length out ≤ length room))
+      Answered (drawText narrow t room) (drawRefusals narrow t (roomRefusals out room)) (MayBeDrawn narrow t × (length out ≤ length room))
       (length out) (putInto out room) room
   -- the text is the print of the one ordered shape of the members
   pub text-shape : (t : Table) → MayBeDrawn narrow t → (s : Shape) × ShapeOf (membersOf t) s
+  pub shape-only : (t : Table) → MayBeDrawn narrow t → (s u : Shape) → ShapeOf (membersOf t) s → ShapeOf (membersOf t) u → s ≡ u
   pub text-is : (t : Table) → MayBeDrawn narrow t → (s : Shape) → ShapeOf (membersOf t) s → leafText t ≡ textBytes s
   -- bytes and rooms
   pub put : (out room : List ℕ)
-      → Answered (written [] out room) (intoRoom out room) (length out ≤ length room) (length out) (putInto out room) room
+      → Answered (written [] out room) (roomRefusals out room) (length out ≤ length room) (length out) (putInto out room) room
   -- a list is never refused by the line, which says why the list is
   pub line : (l : List ℕ) (d : ℕ) (room : List ℕ) → let out = lineOf l d in
-      Answered (lineInto l d room) (intoRoom out room) (length out ≤ length room) (length out) (putInto out room) room
-  pub line-refused : (l : List ℕ) (d n p : ℕ) → building narrow l d n p → (room : List ℕ)
+      Answered (lineInto l d room) (roomRefusals out room) (length out ≤ length room) (length out) (putInto out room) room
+  pub line-refused : (l : List ℕ) (d n p : ℕ) → buildRefusals narrow l d n p → (room : List ℕ)
       → lineInto l d room ≡ written [] (refusedLine d (sentBack n p)) room
   pub line-enough : (l : List ℕ) (d : ℕ) (room : List ℕ) → d < 2 ^ 32 → lineCap ≤ length room → lineInto l d room .sent .number ≡ 0
 
 -- ---- demand 2: the trees of a list are counted, and the first heaviest is drawn
 
 module _ (W : Width) (d : ℕ) (l : List ℕ) where
-  abbrev rows : List Row
-  rows = rowsOf W l
+  abbrev records : List Row
+  records = rowsOf W l
 
   abbrev trees : List (List ℕ)
   trees = treesOfList W d l
 
   -- the tree that is drawn
   abbrev pub FirstTree : List ℕ → Type 0
-  FirstTree ys = FirstBy tieFirst rows trees ys
+  FirstTree ys = FirstBy tieFirst records trees ys
 
   module _ (t : Table) where
     pub record RowsTell : Type 0 where
       -- it holds d, and is fit: its rows ascend, and past them all is zero
       pub degree : t .degree ≡ d
-      pub fit : Fit W t
+      pub fit : FitTable W t
       -- there is a row for each record, and no other
-      pub listed : (r : Row) → ((i : ℕ) × (i < t .rows) × (rowAt t i ≡ r)) ↔ Mem r rows
-      -- no tree is counted twice: none stands in the list of trees twice, nor as another list of the same clusters
-      pub once : (C : ℕ) → Once (treesAt W d l C)
-      pub sets : (C : ℕ) (xs ys : List ℕ) → Mem xs (treesAt W d l C) → Mem ys (treesAt W d l C) → Same xs ys → xs ≡ ys
+      pub rows : (r : Row) → ((i : ℕ) × (i < t .rows) × (rowAt t i ≡ r)) ↔ Mem r records
+      -- the trees that are counted are all there are, each once
+      pub all-trees : (C : ℕ) → EveryTree W d l C
       -- each row tells the trees on its cluster, and how many tuples it has
-      pub each : (i : ℕ) → i < t .rows → TellsTrees W rows (treesAt W d l (rowAt t i .cluster)) (resultAt t i)
-      pub lengths : (i : ℕ) → i < t .rows → resultAt t i .length ≡ rowLength d rows (rowAt t i)
+      pub each : (i : ℕ) → i < t .rows → TellsTrees W records (treesAt W d l (rowAt t i .cluster)) (resultAt t i)
+      pub lengths : (i : ℕ) → i < t .rows → resultAt t i .length ≡ rowLength d records (rowAt t i)
       -- the leaf set's tells those of the list; where it has none, the list has no tree
-      pub leaves : leafSet t ≡ leafSetOf W l
-      pub leaf : leafRow t < t .rows → TellsTrees W rows trees (resultAt t (leafRow t))
+      pub leaf-set : leafSet t ≡ leafSetOf W l
+      pub leaf : leafRow t < t .rows → TellsTrees W records trees (resultAt t (leafRow t))
       pub no-leaf : (leafRow t < t .rows → ⊥) → trees ≡ []
 
     pub record DrawsTrees : Type 0 where
@@ -147,11 +152,11 @@ module _ (W : Width) (d : ℕ) (l : List ℕ) where
       pub first : trees ≢ [] → (ys : List ℕ) × FirstTree ys
       pub only : (ys zs : List ℕ) → FirstTree ys → FirstTree zs → ys ≡ zs
       -- the best weight is its weight; it is written as clusters, ascending; and as the print of its one ordered shape
-      pub best : (ys : List ℕ) → FirstTree ys → resultAt t (leafRow t) .best ≡ weightOf rows ys
-      pub tree : (ys : List ℕ) → FirstBy tieFirst rows trees ys → (room : List ℕ) → drawTree W t room ≡ written [] (ascending ys) room
+      pub best : (ys : List ℕ) → FirstTree ys → resultAt t (leafRow t) .best ≡ weightOf records ys
+      pub tree : (ys : List ℕ) → FirstTree ys → (room : List ℕ) → drawTree W t room ≡ written [] (ascending ys) room
       pub shape : (ys : List ℕ) → FirstTree ys → (s : Shape) × ShapeOf ys s
       pub shape-only : (ys : List ℕ) → FirstTree ys → (s u : Shape) → ShapeOf ys s → ShapeOf ys u → s ≡ u
-      pub text : (ys : List ℕ) → FirstBy tieFirst rows trees ys → (s : Shape) → ShapeOf ys s
+      pub text : (ys : List ℕ) → FirstTree ys → (s : Shape) → ShapeOf ys s
           → (room : List ℕ) → drawText W t room ≡ written [] (textBytes s) room
       -- rooms that are always enough: two numbers a taxon less one, and as many bytes as a text may have
       pub tree-enough : (room : List ℕ) → listMax W ≤ length room → drawTree W t room .sent .number ≢ 11
@@ -183,22 +188,22 @@ pub record RoundTrips : Type 0 where
       → writeRecord (readRecord l .given) room ≡ outcomeOf (Done recordBytes) (l ++ drop recordBytes room)
 
 pub record Demand2 : Type 0 where
-  pub rows : (l : List ℕ) (d : ℕ) (xs : List Row) → AcceptedBytes narrow l → Degree d
+  pub rows-tell : (l : List ℕ) (d : ℕ) (xs : List Row) → AcceptedBytes narrow l → T (isDegree d)
       → RowsTell narrow d (changeAll narrow l xs) (rescoreAll narrow (buildTable narrow l d .given) xs)
-  pub drawn : (l : List ℕ) (d : ℕ) (xs : List Row) → AcceptedBytes narrow l → Degree d
+  pub draws : (l : List ℕ) (d : ℕ) (xs : List Row) → AcceptedBytes narrow l → T (isDegree d)
       → DrawsTrees narrow d (changeAll narrow l xs) (rescoreAll narrow (buildTable narrow l d .given) xs)
-  pub printed : (l : List ℕ) (d : ℕ) → AcceptedBytes narrow l → Degree d → Prints d l
+  pub prints : (l : List ℕ) (d : ℕ) → AcceptedBytes narrow l → T (isDegree d) → Prints d l
   pub rooms : (listMax narrow ≡ 63) × (narrow .textBytes ≡ 148) × (lineCap ≡ 172)
-  pub records : RoundTrips
+  pub round-trips : RoundTrips
 
 -- ---- demand 3: a rescored table is the fresh build of the changed list
 
 pub record Demand3 : Type 0 where
   -- after each of any changes, every field of it
-  pub fresh : (l : List ℕ) (d : ℕ) (xs : List Row) → AcceptedBytes narrow l → Degree d
+  pub fresh : (l : List ℕ) (d : ℕ) (xs : List Row) → AcceptedBytes narrow l → T (isDegree d)
       → rescoreAll narrow (buildTable narrow l d .given) xs ≡ buildTable narrow (changeAll narrow l xs) d .given
   -- where a change is taken: it names the cluster of a record, and has a score
-  pub taken : (l : List ℕ) (d : ℕ) (xs : List Row) (c : ℕ) (z : ℤ) (s : ℕ) → AcceptedBytes narrow l → Degree d
+  pub taken : (l : List ℕ) (d : ℕ) (xs : List Row) (c : ℕ) (z : ℤ) (s : ℕ) → AcceptedBytes narrow l → T (isDegree d)
       → (rescoreTable narrow (rescoreAll narrow (buildTable narrow l d .given) xs) c z s .sent .number ≡ 0)
       ↔ (HasCluster narrow (changeAll narrow l xs) c × KeepsScore z s)
   -- in any table: a row whose cluster doesn't contain the rescored one isn't changed
@@ -215,21 +220,21 @@ pub record Demand3 : Type 0 where
 -- an accepted rescoring of any fit table
 pub record Reworks : Type 0 where
   -- one row gets the new weight and state
-  pub scored : (t : Table) (c : ℕ) (z : ℤ) (s : ℕ) → rescoreTable narrow t c z s .sent .number ≡ 0 → (i : ℕ) → i < t .rows
+  pub new-score : (t : Table) (c : ℕ) (z : ℤ) (s : ℕ) → rescoreTable narrow t c z s .sent .number ≡ 0 → (i : ℕ) → i < t .rows
       → rowAt (rescoreTable narrow t c z s .given) i ≡ putScore c z s (rowAt t i)
   -- and each row that contains it is worked out from the rows of the table as they then stand
   pub worked : (t : Table) (c : ℕ) (z : ℤ) (s : ℕ) → rescoreTable narrow t c z s .sent .number ≡ 0 → (i : ℕ) → i < t .rows
       → T (inside c (rowAt t i .cluster)) → WorkedRow narrow (rescoreTable narrow t c z s .given) i
   -- it is fit again
   pub fit : (t : Table) (c : ℕ) (z : ℤ) (s : ℕ) → rescoreTable narrow t c z s .sent .number ≡ 0
-      → Fit narrow (rescoreTable narrow t c z s .given)
+      → FitTable narrow (rescoreTable narrow t c z s .given)
 
 -- ---- all of them
 
 pub record Demands : Type 0 where
-  pub first : Demand1
-  pub second : Demand2
-  pub third : Demand3
-  pub unbuilt : Reworks
+  pub demand1 : Demand1
+  pub demand2 : Demand2
+  pub demand3 : Demand3
+  pub reworks : Reworks
   -- strict marking: of each public operation, two outcomes that its promise allows are equal
-  pub only : OneOutcome
+  pub one-outcome : OneOutcome

@@ -5,17 +5,14 @@
 --     refuse n P rest     n, at position 0, where P holds; else the rest
 --     refuseAt n P rest   n, at the position p where P p holds; else the rest
 --     sentBack n p        what is then sent back: every other number is zero
---     success n           what a success sends back: how many bytes or numbers there are
---     putInto out room    the room with this output at its start
 --     Answered o s A n x y     the outcome o is a success exactly where A holds, and then tells n and gives x; else it is the first refusal
 --                         of s that applies, and leaves y
 -- Assumes nothing.
 use mathlib.Core.Path.{_≡_}
 use mathlib.Core.Logic.{_⊎_, _≢_, _↔_}
-use mathlib.Core.List.{List, _++_}
 use Prim.Native.Nat.{ℕ}
-use lib.ListN.{length, drop}
-use Rattle.answers.specs.Refusal.{Sent}
+use Rattle.answers.specs.declared.refusal.Answer.the-variants.{Done}
+use Rattle.answers.specs.Refusal.{Sent, sentOf}
 use Rattle.answers.specs.Outcome.{Outcome}
 
 abbrev pub Sending : Type 1
@@ -33,16 +30,11 @@ refuseAt n P rest m p = ((m ≡ n) × P p) ⊎ (((q : ℕ) → P q → ⊥) × r
 abbrev pub sentBack : ℕ → ℕ → Sent
 sentBack n p = record { number = n; position = p; told = 0 }
 
-abbrev pub success : ℕ → Sent
-success n = record { number = 0; position = 0; told = n }
-
-abbrev pub putInto : List ℕ → List ℕ → List ℕ
-putInto out room = out ++ drop (length out) room
-
 pub record Answered {A : Type 0} (o : Outcome A) (sends : Sending) (Taken : Type 0) (told : ℕ) (handed left : A) : Type 0 where
   -- a success has the number 0
   pub taken : (o .sent .number ≡ 0) ↔ Taken
-  pub tells : o .sent .number ≡ 0 → o .sent ≡ success told
+  -- it tells this number, and gives this
+  pub tells : o .sent .number ≡ 0 → o .sent ≡ sentOf (Done told)
   pub gives : o .sent .number ≡ 0 → o .given ≡ handed
   -- each refusal is sent back, with its position, exactly where it is the first that applies
   pub refused : (n p : ℕ) → n ≢ 0 → (o .sent ≡ sentBack n p) ↔ sends n p

@@ -2,6 +2,7 @@
 --     leafSetOf W l          the leaf set of a list: the union of all its clusters
 --     treesAt W d l C        the trees on a cluster, of the listed, scored clusters of a list
 --     treesOfList W d l      the trees of a list: those on its leaf set
+--     EveryTree W d l C      the list of the trees on C has every set that is one, once, and nothing else
 --     FirstBy before rs ts ys     ys is one of the sets ts; none is heavier, rs having the weights; and by `before` it comes before each
 --                            that is as heavy
 --     TellsTrees W rs ts v   the results of a row whose cluster has the trees ts
@@ -21,11 +22,11 @@ use Rattle.laws.specs.Limits.{Width}
 use Rattle.laws.specs.Lists.{Once, Same}
 use Rattle.laws.specs.Row.{Row}
 use Rattle.trees.specs.Rows.{clustersOf, scoredIn}
-use Rattle.trees.specs.Tree.{treesOn}
+use Rattle.trees.specs.Tree.{isTree, treesOn}
 use Rattle.trees.specs.Heaviest.{weightOf, tieFirst}
 use Rattle.trees.specs.Result.{Result, marksOf}
 use Rattle.lists.specs.Records.{rowsOf}
-use Rattle.drawing.specs.Built.{leaves}
+use Rattle.drawing.specs.Built.{leaves, treesOf}
 use Rattle.shapes.specs.Characters.{characters}
 use Rattle.shapes.specs.Decimal.{decimal}
 use Rattle.shapes.specs.Shape.{Shape, verticesOf, isOrdered}
@@ -39,7 +40,20 @@ abbrev pub treesAt : Width → ℕ → List ℕ → ℕ → List (List ℕ)
 treesAt W d l C = treesOn (W .taxa) d (scoredIn (rowsOf W l)) C
 
 abbrev pub treesOfList : Width → ℕ → List ℕ → List (List ℕ)
-treesOfList W d l = treesAt W d l (leafSetOf W l)
+treesOfList W d l = treesOf W d (rowsOf W l)
+
+-- a set is a list of clusters that has none twice
+pub record EveryTree (W : Width) (d : ℕ) (l : List ℕ) (C : ℕ) : Type 0 where
+  -- each is a set of listed, scored clusters that is a tree on C
+  pub listed : (xs : List ℕ) → Mem xs (treesAt W d l C) → (c : ℕ) → Mem c xs → Mem c (scoredIn (rowsOf W l))
+  pub set : (xs : List ℕ) → Mem xs (treesAt W d l C) → Once xs
+  pub tree : (xs : List ℕ) → Mem xs (treesAt W d l C) → T (isTree (W .taxa) d C xs)
+  -- each such set is there, in its own order
+  pub every : (xs : List ℕ) → ((c : ℕ) → Mem c xs → Mem c (scoredIn (rowsOf W l))) → Once xs → T (isTree (W .taxa) d C xs)
+      → (ys : List ℕ) × Mem ys (treesAt W d l C) × Same ys xs
+  -- and none stands there twice, nor in another order
+  pub once : Once (treesAt W d l C)
+  pub only : (xs ys : List ℕ) → Mem xs (treesAt W d l C) → Mem ys (treesAt W d l C) → Same xs ys → xs ≡ ys
 
 -- ---- the one that is drawn
 

@@ -29,6 +29,7 @@ use Rattle.trees.specs.Beneath.{Beneath, sumCounts, isLive, isMany}
 use Rattle.kept.specs.declared.table.Table.{Table}
 use Rattle.kept.specs.View.{rowAt, resultAt, entriesOf, clustersIn}
 use Rattle.kept.specs.Marks.{isMarkedIn}
+use Rattle.members.specs.Marked.{total}
 
 -- ---- tuples of a table's rows
 
@@ -48,8 +49,7 @@ abbrev pub joinedSet : List ℕ → List Beneath → List ℕ
 joinedSet cs τ = keep (λ (c : ℕ). any (λ (e : Beneath). isMarkedIn cs (e .val .members) c) τ) cs
 
 abbrev pub sumBests : List Beneath → ℤ
-sumBests [] = pos 0
-sumBests (e ∷ τ) = e .val .best +ℤ sumBests τ
+sumBests τ = total (map (λ (e : Beneath). e .val .best) τ)
 
 -- ---- a row by its tuples
 

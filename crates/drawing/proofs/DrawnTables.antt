@@ -28,6 +28,7 @@ use Rattle.answers.proofs.Laws.Outcome.{written-whole}
 use Rattle.trees.specs.Heaviest.{firstHeaviest}
 use Rattle.trees.proofs.Formula.Rows.{givenOf}
 use Rattle.trees.proofs.Sets.TreeFacts.{Given}
+use Rattle.trees.proofs.Theorems.{best-some}
 use Rattle.shapes.specs.Drawn.{ascending, textOf}
 use Rattle.shapes.specs.Nests.{TreeOn}
 use Rattle.shapes.proofs.Backward.{text-reverse}
@@ -42,7 +43,7 @@ use Rattle.drawing.specs.Draw.{drawTree, drawText}
 use Rattle.drawing.specs.Built.{builtFrom, leaves, treesOf, listMax}
 use Rattle.drawing.proofs.Laws.Draw.{tree-refused, tree-put, text-refused, text-put}
 use Rattle.drawing.proofs.LeafRow.{leaf-set-is, has-tree-iff}
-use Rattle.drawing.proofs.LeafTree.{first-tree, is-tree, members-back, members-are, listed, drawable}
+use Rattle.drawing.proofs.LeafTree.{is-tree, members-back, members-are, listed, drawable}
 
 module _ (W : Width) (facts : WidthFacts W) (d : ℕ) (rs : List Row) (k : Buildable W d rs) where
   abbrev t : Table
@@ -65,7 +66,7 @@ module _ (W : Width) (facts : WidthFacts W) (d : ℕ) (rs : List Row) (k : Build
 
   some-tree : treesOf W d rs ≢ [] → why ≡ none
   some-tree n =
-      let q = first-tree W facts d rs k n in
+      let q = best-some (W .taxa) d rs (k .facts) (leaves rs) n in
       let found = T-true (hasTree t) (has-tree-iff W facts d rs k .1 n) in
       nothing-refused W t is-fit found (T-true (isDrawable W t) (drawable W facts d rs k (q .0) (q .1)))
 

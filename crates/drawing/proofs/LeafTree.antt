@@ -1,17 +1,15 @@
 -- The first heaviest tree on the leaf set of a built table is what the marks of its row say, and they may be drawn (RULES 5 and 9).
 --     marks-tell       the marks of the clusters that pass a test, as a row of a built table has them, tell so row by row
---     first-tree       where there is a tree, one of them is the first heaviest
 --     is-tree          it is a tree
 --     leaf-best        the row's marks and best weight are its marks and weight
 --     members-back, members-are     the marked clusters are the tree, backward: ascending
 --     listed           its members are listed scored clusters, and a tree as a family
 --     drawable         the marks are a tree of the row's best weight
 -- Assumes nothing.
-use mathlib.Core.Path.{_≡_, refl, sym, ap, ap₂, _∙_, subst}
-use mathlib.Core.Logic.{_≢_}
+use mathlib.Core.Path.{_≡_, sym, ap, ap₂, _∙_, subst}
 use mathlib.Core.Bool.{Bool, true, _&&_}
-use mathlib.Core.Option.{Option, none, some}
-use mathlib.Core.List.{List, [], reverse}
+use mathlib.Core.Option.{some}
+use mathlib.Core.List.{List, reverse}
 use mathlib.Core.List.{List·Memᴰ as Mem}
 use Prim.Native.Nat.{ℕ, _<_}
 use lib.Dec.{T}
@@ -34,7 +32,7 @@ use Rattle.trees.specs.Result.{Result, marksIn, marksOf}
 use Rattle.trees.specs.Built.{withBest}
 use Rattle.trees.proofs.Built.{sets}
 use Rattle.trees.proofs.Formula.Rows.{givenOf, mem-scored}
-use Rattle.trees.proofs.Theorems.{none-iff, best-is-tree}
+use Rattle.trees.proofs.Theorems.{best-is-tree}
 use Rattle.trees.proofs.Sets.TreeFacts.{Given, Tree}
 use Rattle.trees.proofs.Joined.TreeTest.{tree-of, tree→test}
 use Rattle.trees.proofs.Ties.Marks.{marks-lt, marks-inj}
@@ -70,13 +68,6 @@ module _ (W : Width) (facts : WidthFacts W) (d : ℕ) (rs : List Row) (k : Build
 
   abbrev given : Given
   given = givenOf (W .taxa) d rs (k .facts)
-
-  pub first-tree : treesOf W d rs ≢ [] → (xs : List ℕ) × (firstHeaviest rs (treesOf W d rs) ≡ some xs)
-  first-tree n = go (firstHeaviest rs (treesOf W d rs)) refl
-    where
-      go : (x : Option (List ℕ)) → firstHeaviest rs (treesOf W d rs) ≡ x → (xs : List ℕ) × (firstHeaviest rs (treesOf W d rs) ≡ some xs)
-      go none e = absurd (n (none-iff (W .taxa) d rs (k .facts) (leaves rs) .0 e))
-      go (some xs) e = (xs, e)
 
   module _ (xs : List ℕ) (found : firstHeaviest rs (treesOf W d rs) ≡ some xs) where
     abbrev isIn : ℕ → Bool

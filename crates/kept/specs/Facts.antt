@@ -3,7 +3,7 @@
 --     Ranged W r v     the ranges of a row's results
 --     Matched cs r v   what its count says of its marks and its best weight, cs being the clusters of all rows, the largest first
 --     FitRow W cs r v  a row and its results
---     Bounded W d n    n rows and the degree bound d are those of some table of the width
+--     Bounded W d n    n rows and the degree bound d are those of some fit table
 --     FitTable W t     the table
 -- Assumes nothing.
 use mathlib.Core.Path.{_≡_}
@@ -18,10 +18,10 @@ use Rattle.laws.specs.Cluster.{inside, size, single}
 use Rattle.laws.specs.Limits.{Width, weightMax, isDegree, rowCap}
 use Rattle.laws.specs.Row.{Row, isScored}
 use Rattle.cluster.specs.Rule.{Keeps}
-use Rattle.trees.specs.Result.{Result}
+use Rattle.trees.specs.Result.{Result, blank}
 use Rattle.kept.specs.declared.table.Table.{Table}
 use Rattle.kept.specs.View.{rowAt, resultAt, entryAt, clustersIn}
-use Rattle.kept.specs.Blank.{isBlank, isEmpty}
+use Rattle.kept.specs.Blank.{emptyRow}
 use Rattle.kept.specs.Marks.{everyMarked, isMarkedIn}
 
 -- ---- a row
@@ -33,12 +33,12 @@ pub record Ranged (W : Width) (r : Row) (v : Result) : Type 0 where
   pub marked : (v .mark ≡ 0) ⊎ ((v .mark ≡ 1) × (v .count ≡ W .countMax))
   -- a single taxon has no row length, and an unscored row no result
   pub taxon : T (single (r .cluster)) → v .length ≡ 0
-  pub unscored : (T (isScored r) → ⊥) → T (isBlank v)
+  pub unscored : (T (isScored r) → ⊥) → v ≡ blank
 
 pub record Matched (cs : List ℕ) (r : Row) (v : Result) : Type 0 where
   -- no mark stands past the rows
   pub below : v .members < 2 ^ length cs
-  -- a count of zero: no member, mark or best weight
+  -- a count of zero: no member, mark or best weight; where no member is marked the count is zero, by what follows
   pub none : v .count ≡ 0 → (v .members ≡ 0) × (v .mark ≡ 0) × (v .best ≡ pos 0)
   -- any other: the row is its own member, no member lies outside it, and the best weight is no further from zero than the members of a tree
   -- on so many taxa can bring it
@@ -65,6 +65,6 @@ pub record FitTable (W : Width) (t : Table) : Type 0 where
   pub bounds : Bounded W (t .degree) (t .rows)
   -- strictly ascending clusters
   pub rising : (i j : ℕ) → i < j → j < t .rows → rowAt t i .cluster < rowAt t j .cluster
-  -- each row is fit, and past them all is zero
+  -- each row is fit, and past them each is empty
   pub fit : (i : ℕ) → i < t .rows → FitRow W (clustersIn t) (rowAt t i) (resultAt t i)
-  pub blank : (i : ℕ) → t .rows ≤ i → i < rowCap → T (isEmpty (entryAt t i))
+  pub past : (i : ℕ) → t .rows ≤ i → i < rowCap → entryAt t i ≡ emptyRow

@@ -17,8 +17,8 @@ use lib.ListN.{length, getD}
 use Rattle.laws.specs.Limits.{Width}
 use Rattle.laws.specs.Row.{Row}
 use Rattle.cluster.specs.Bytes.{byteValues}
-use Rattle.cluster.specs.Record.{hasSpare, bytesOf}
-use Rattle.cluster.specs.Rule.{Keeps}
+use Rattle.cluster.specs.Reading.{KeepsBytes}
+use Rattle.cluster.specs.Record.{bytesOf}
 use Rattle.lists.specs.Records.{recordsIn, bytesAt, listedAt}
 
 abbrev pub Bytes : List ℕ → Type 0
@@ -27,7 +27,7 @@ Bytes l = (i : ℕ) → getD l i 0 < byteValues
 module _ (W : Width) (l : List ℕ) where
   -- ---- a record
   abbrev pub KeepsAt : ℕ → Type 0
-  KeepsAt i = let r = listedAt W l i in Keeps (r .cluster) (r .weight) (r .state) (hasSpare W (bytesAt W l i))
+  KeepsAt i = KeepsBytes W (bytesAt W l i)
 
   abbrev pub Repeats : ℕ → Type 0
   Repeats i = (j : ℕ) × (j < i) × (listedAt W l i .cluster ≡ listedAt W l j .cluster)

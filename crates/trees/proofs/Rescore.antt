@@ -6,7 +6,8 @@
 --     put-cluster, put-clusters, put-other         what a new score leaves alone
 --     again-is-table, rescore-is-table     the theorem, for any local formula and for that of the rules
 --     others F c t          the rows of t that don't contain c
---     again-clusters, rescored-clusters, rescore-other     in any table clusters stay, and so does every row without the rescored cluster
+--     again-rows, again-clusters, rescored-clusters     in any table the rows that there are stay, and their clusters
+--     rescore-other     and so does every row without the rescored cluster
 -- Assumes nothing.
 use mathlib.Core.Path.{_≡_, refl, sym, ap, ap₂, _∙_, subst}
 use mathlib.Core.Logic.{_⊎_, inl, inr}
@@ -148,6 +149,14 @@ module _ (c : ℕ) (z : ℤ) (s : ℕ) where
 -- ---- any table: what a rescoring leaves alone
 
 module _ {A : Type 0} (F : Row → List (Entry A) → A) (c : ℕ) where
+  pub again-rows : (t : List (Entry A)) → map (λ (e : Entry A). e .row) (again F c t) ≡ map (λ (e : Entry A). e .row) t
+  again-rows [] = refl
+  again-rows (e ∷ t) = go (inside c (cl e)) ∙ ap (λ (rs : List Row). e .row ∷ rs) (again-rows t)
+    where
+      go : (b : Bool) → map (λ (x : Entry A). x .row) (againIf F b e (again F c t)) ≡ e .row ∷ map (λ (x : Entry A). x .row) (again F c t)
+      go true = refl
+      go false = refl
+
   pub again-clusters : (t : List (Entry A)) → map cl (again F c t) ≡ map cl t
   again-clusters [] = refl
   again-clusters (e ∷ t) = go (inside c (cl e)) ∙ ap (λ (cs : List ℕ). cl e ∷ cs) (again-clusters t)

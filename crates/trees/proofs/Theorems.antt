@@ -1,6 +1,7 @@
 -- What the rules demand of trees and tables (RULES 12), each under one name, for every degree bound, width and limit.
 --     worked-is-built (Built.antt)      demand 2: the row worked out from tuples is the row defined by trees
 --     none-iff, count-iff               "no tree" exactly where there is none, and count zero exactly then
+--     best-some                         else one is found
 --     best-is-tree, best-first, best-only     the best is a tree, comes before every other, and is the only one that does
 --     best-heaviest                     and no tree is heavier
 --     put-facts                         changed rows are rows as before
@@ -11,7 +12,7 @@
 -- Assumes nothing.
 use mathlib.Core.Path.{_≡_, refl, sym, ap, _∙_, subst}
 use mathlib.Core.Logic.{_⊎_, inl, inr, _≢_, _↔_}
-use mathlib.Core.Option.{none, some, Option·none-ne-some}
+use mathlib.Core.Option.{Option, none, some, Option·none-ne-some}
 use mathlib.Core.List.{List, [], _∷_, map, Memᴰ·of-map}
 use mathlib.Core.List.{List·Memᴰ as Mem}
 use Prim.Native.Nat.{ℕ, suc, _≤_, _<_, _^_}
@@ -53,6 +54,13 @@ module _ (w d : ℕ) (rs : List Row) (f : RowFacts w rs) (C : ℕ) where
       to (xs ∷ ts) s e =
           let q = first-some rs (f .falls) (nonzero w d rs f) xs ts s in
           absurd (Option·none-ne-some (q .0) (sym e ∙ q .1))
+
+  pub best-some : trees ≢ [] → (xs : List ℕ) × (firstHeaviest rs trees ≡ some xs)
+  best-some n = go (firstHeaviest rs trees) refl
+    where
+      go : (x : Option (List ℕ)) → firstHeaviest rs trees ≡ x → (xs : List ℕ) × (firstHeaviest rs trees ≡ some xs)
+      go none e = absurd (n (none-iff .0 e))
+      go (some xs) e = (xs, e)
 
   module _ (xs : List ℕ) (found : firstHeaviest rs trees ≡ some xs) where
     pub best-is-tree : Mem xs trees

@@ -4,8 +4,8 @@
 --     draws             the built table of a list draws its first heaviest tree
 -- Assumes nothing.
 use mathlib.Core.Path.{_≡_, refl, sym, ap, _∙_}
-use mathlib.Core.Logic.{_⊎_, inl, inr, _≢_, _↔_}
-use mathlib.Core.Option.{Option, none, some, Option·some-injective}
+use mathlib.Core.Logic.{_⊎_, inl, inr, ⊎-map, _≢_, _↔_}
+use mathlib.Core.Option.{some, Option·some-injective}
 use mathlib.Core.List.{List, []}
 use Prim.Native.Nat.{ℕ, _≤_, _<_}
 use native.Mathlib.Decide.{decLe}
@@ -15,9 +15,10 @@ use Rattle.laws.specs.Cluster.{size}
 use Rattle.laws.specs.Limits.{Width}
 use Rattle.laws.specs.Row.{Row}
 use Rattle.laws.specs.Widths.{WidthFacts}
+use Rattle.laws.proofs.Keep.{empty-or}
 use Rattle.trees.specs.Heaviest.{firstHeaviest}
 use Rattle.trees.proofs.Formula.Rows.{givenOf}
-use Rattle.trees.proofs.Theorems.{none-iff}
+use Rattle.trees.proofs.Theorems.{best-some}
 use Rattle.shapes.specs.Shape.{Shape}
 use Rattle.shapes.specs.Text.{textBytes}
 use Rattle.shapes.specs.Drawn.{ascending, shapeOf, textOf}
@@ -36,7 +37,7 @@ use Rattle.demands.specs.Demands.{FirstTree, DrawsTrees}
 use Rattle.demands.specs.Sending.{sentBack}
 use Rattle.demands.specs.Trees.{leafSetOf, treesOfList}
 use Rattle.demands.proofs.Shapes.{shape-of, shape-is}
-use Rattle.demands.proofs.Drawn.First.{→found, first-some}
+use Rattle.demands.proofs.Drawn.First.{→found, first-there}
 
 -- ---- into a room
 
@@ -78,11 +79,7 @@ module _ (W : Width) (facts : WidthFacts W) (d : ℕ) (l : List ℕ) (k : Builda
 
   -- either there is no tree, or one is the first heaviest
   either : (trees ≡ []) ⊎ ((ys : List ℕ) × (firstHeaviest rs trees ≡ some ys))
-  either = go (firstHeaviest rs trees) refl
-    where
-      go : (x : Option (List ℕ)) → firstHeaviest rs trees ≡ x → (trees ≡ []) ⊎ ((ys : List ℕ) × (firstHeaviest rs trees ≡ some ys))
-      go none e = inl (none-iff (W .taxa) d rs (k .facts) C .0 e)
-      go (some ys) e = inr (ys, e)
+  either = ⊎-map (λ n. n) (best-some (W .taxa) d rs (k .facts) C) (empty-or trees)
 
   -- an outcome that is the refusal of no tree where there is none, and else something put into the room
   module _ (o : Outcome (List ℕ)) (out : List ℕ → List ℕ) (room : List ℕ)
@@ -145,7 +142,7 @@ module _ (W : Width) (facts : WidthFacts W) (d : ℕ) (l : List ℕ) (k : Builda
     no-text = λ room. by-seven (drawText W t room) textFor room (text-none room) (text-drawn room);
     tree-never = λ room. by-eight (drawTree W t room) ascending room (tree-none room) (tree-drawn room);
     text-never = λ room. by-eight (drawText W t room) textFor room (text-none room) (text-drawn room);
-    first = first-some (W .taxa) d rs (k .facts) C;
+    first = first-there (W .taxa) d rs (k .facts) C;
     only = λ ys zs f g. Option·some-injective ys zs (sym (found ys f) ∙ found zs g);
     best = λ ys f. leaf-best W facts d rs k ys (found ys f) .1;
     tree = λ ys f room. tree-drawn room ys (found ys f);

@@ -1,6 +1,6 @@
 -- The one tree that is drawn, in words and by the definition that a row is stated with: `firstHeaviest`.
 --     found→, →found      a set is the first heaviest by weight and tie rule exactly where it is what is found
---     first-some          where there is a tree, one is
+--     first-there         where there is a tree, one is
 --     tells               the results of a row whose cluster has the trees ts, in words
 -- Assumes nothing.
 use mathlib.Core.Path.{_≡_, refl, sym, ap, _∙_, subst}
@@ -25,7 +25,7 @@ use Rattle.trees.specs.Heaviest.{weightOf, tieFirst, comesFirst, firstHeaviest}
 use Rattle.trees.specs.Result.{Result, countField, markField, marksOf}
 use Rattle.trees.specs.Built.{withBest, treeResult}
 use Rattle.trees.proofs.Counting.Capped.{past, count-small, count-large}
-use Rattle.trees.proofs.Theorems.{none-iff, best-is-tree, best-heaviest, best-first, best-only}
+use Rattle.trees.proofs.Theorems.{best-some, best-is-tree, best-heaviest, best-first, best-only}
 use Rattle.demands.specs.Trees.{FirstBy, TellsTrees}
 
 -- ---- the first heaviest, in words
@@ -69,12 +69,8 @@ module _ (w d : ℕ) (rs : List Row) (f : RowFacts w rs) (C : ℕ) where
       go zs m (Tri.same q) = ahead zs q (k .first zs m q)
       go zs m (Tri.more l) = absurd (k .heaviest zs m l)
 
-  pub first-some : trees ≢ [] → (ys : List ℕ) × FirstBy tieFirst rs trees ys
-  first-some n = go (firstHeaviest rs trees) refl
-    where
-      go : (x : Option (List ℕ)) → firstHeaviest rs trees ≡ x → (ys : List ℕ) × FirstBy tieFirst rs trees ys
-      go none e = absurd (n (none-iff w d rs f C .0 e))
-      go (some ys) e = (ys, found→ ys e)
+  pub first-there : trees ≢ [] → (ys : List ℕ) × FirstBy tieFirst rs trees ys
+  first-there n = let q = best-some w d rs f C n in (q .0, found→ (q .0) (q .1))
 
 -- ---- what a row tells
 

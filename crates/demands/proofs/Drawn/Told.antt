@@ -4,28 +4,20 @@
 use mathlib.Core.Path.{_≡_, refl, sym, subst}
 use mathlib.Core.Logic.{_↔_}
 use mathlib.Core.Option.{Option, none, some}
-use mathlib.Core.List.{List, map-id}
+use mathlib.Core.List.{List}
 use mathlib.Core.List.{List·Memᴰ as Mem}
 use Prim.Native.Nat.{ℕ, _<_}
 use lib.ListN.{length}
 use Rattle.laws.specs.Limits.{Width}
-use Rattle.laws.specs.Lists.{sublists, Once, Same}
 use Rattle.laws.specs.Orders.{downTo}
 use Rattle.laws.specs.Row.{Row}
 use Rattle.laws.specs.Widths.{WidthFacts}
 use Rattle.laws.proofs.Down.{down-mem, mem-down}
-use Rattle.laws.proofs.Falling.{sublist-only}
 use Rattle.laws.proofs.Keep.{nil-of-none}
-use Rattle.laws.proofs.Once.{once-keep}
-use Rattle.laws.proofs.Sublists.{sublists-once}
-use Rattle.trees.specs.Rows.{scoredIn, Entry}
-use Rattle.trees.specs.Tree.{isTree, treesOn}
+use Rattle.trees.specs.Rows.{Entry}
 use Rattle.trees.specs.Heaviest.{firstHeaviest}
 use Rattle.trees.specs.Result.{Result, countField, markField}
 use Rattle.trees.specs.Built.{rowLength, withBest, treeResult, builtResult}
-use Rattle.trees.proofs.Formula.Rows.{givenOf}
-use Rattle.trees.proofs.Joined.TreeTest.{tree-of}
-use Rattle.trees.proofs.Sets.TreeFacts.{Given}
 use Rattle.lists.specs.Records.{rowsOf}
 use Rattle.kept.specs.declared.table.Table.{Table}
 use Rattle.kept.specs.View.{rowAt, resultAt}
@@ -36,7 +28,8 @@ use Rattle.drawing.specs.Built.{builtFrom}
 use Rattle.drawing.proofs.LeafRow.{rows-are, row-at, leaf-set-is, leaf-result, leaf-listed}
 use Rattle.demands.specs.Demands.{RowsTell}
 use Rattle.demands.specs.Trees.{leafSetOf, treesAt, treesOfList, TellsTrees}
-use Rattle.demands.proofs.Drawn.First.{→found, first-some, tells}
+use Rattle.demands.proofs.Drawn.Every.{every-tree}
+use Rattle.demands.proofs.Drawn.First.{→found, first-there, tells}
 
 module _ (W : Width) (facts : WidthFacts W) (d : ℕ) (l : List ℕ) (k : Buildable W d (rowsOf W l)) where
   abbrev rs : List Row
@@ -57,23 +50,10 @@ module _ (W : Width) (facts : WidthFacts W) (d : ℕ) (l : List ℕ) (k : Builda
     λ m. let q = mem-down (rowAt t) (t .rows) r (subst (Mem r) (sym (rows-are W facts d rs k)) m) in (q .0, q .1, sym (q .2)),
   )
 
-  -- sets of the scored clusters, which don't repeat
-  abbrev given : Given
-  given = givenOf (W .taxa) d rs (k .facts)
-
-  trees-once : (C : ℕ) → Once (treesAt W d l C)
-  unfolding treesOn
-  trees-once C = once-keep (isTree (W .taxa) d C) (sublists (scoredIn rs)) (sublists-once (scoredIn rs) (given .once))
-
-  trees-sets : (C : ℕ) (xs ys : List ℕ) → Mem xs (treesAt W d l C) → Mem ys (treesAt W d l C) → Same xs ys → xs ≡ ys
-  trees-sets C xs ys m n same =
-      sublist-only (λ (c : ℕ). c) (scoredIn rs) (rw (map-id (scoredIn rs)) (given .once)) xs ys (tree-of given C xs m .0)
-      (tree-of given C ys n .0) (λ c i. rw (map-id ys) (same .to c i)) (λ c i. rw (map-id xs) (same .from c i))
-
   row-tells : (r : Row) → TellsTrees W rs (treesAt W d l (r .cluster)) (builtResult W d rs r)
   row-tells r =
       let C = r .cluster in
-      tells W rs (rowLength d rs r) (treesAt W d l C) (→found (W .taxa) d rs (k .facts) C) (first-some (W .taxa) d rs (k .facts) C)
+      tells W rs (rowLength d rs r) (treesAt W d l C) (→found (W .taxa) d rs (k .facts) C) (first-there (W .taxa) d rs (k .facts) C)
 
   with-length : (n c m : ℕ) (x : Option (List ℕ)) → withBest rs n c m x .length ≡ n
   with-length n c m none = refl
@@ -87,15 +67,14 @@ module _ (W : Width) (facts : WidthFacts W) (d : ℕ) (l : List ℕ) (k : Builda
   rows-tell = record {
     degree = refl;
     fit = isFit→ W facts t (built-fit W facts d rs k);
-    listed = listed;
-    once = trees-once;
-    sets = trees-sets;
+    rows = listed;
+    all-trees = every-tree W d l (k .facts);
     each = each-row (λ r v. TellsTrees W rs (treesAt W d l (r .cluster)) v) row-tells;
     lengths = each-row (λ r v. v .length ≡ rowLength d rs r) (λ r. row-length (rowLength d rs r) (treesAt W d l (r .cluster)));
-    leaves = leaf-set-is W facts d rs k;
+    leaf-set = leaf-set-is W facts d rs k;
     leaf = λ h. let q = leaf-result W facts d rs k h in
         subst (TellsTrees W rs (treesOfList W d l)) (sym (q .1))
         (tells W rs (q .0) (treesOfList W d l) (→found (W .taxa) d rs (k .facts) (leafSetOf W l))
-        (first-some (W .taxa) d rs (k .facts) (leafSetOf W l)));
+        (first-there (W .taxa) d rs (k .facts) (leafSetOf W l)));
     no-leaf = λ n. nil-of-none (treesOfList W d l) (λ xs m. n (leaf-listed W facts d rs k xs m));
   }

@@ -1,5 +1,5 @@
 -- A rescored table by its rows: the new score, and each row that contains the rescored cluster worked out over all rows of the table.
---     fit-full         no row of a fit table is empty
+--     Full, fit-full   none of some clusters is empty; so it is in a fit table
 --     worked-above     a row that isn't smaller plays no part where a row is worked out
 --     again-stands     each row that is worked out again, is so over the whole list
 --     new-count, new-row, new-stands     the number of rows, row i, and its results where it contains the rescored cluster
@@ -31,7 +31,7 @@ use Rattle.trees.specs.Tuple.{isTuple, tuples}
 use Rattle.trees.specs.Result.{Result, blank}
 use Rattle.trees.specs.Beneath.{Beneath, isLive, keyOf, firstKey}
 use Rattle.trees.specs.Rescored.{joined, alone, workedOut, putScore, againIf, again, rescored}
-use Rattle.trees.proofs.Rescore.{put-cluster, again-clusters, rescored-clusters}
+use Rattle.trees.proofs.Rescore.{put-cluster, again-rows, again-clusters, rescored-clusters}
 use Rattle.trees.proofs.Sets.Tuples.{part-inside, part-other}
 use Rattle.kept.specs.declared.table.Table.{Table}
 use Rattle.kept.specs.View.{rowAt, resultAt, entryAt, entriesOf, clustersIn}
@@ -125,14 +125,6 @@ module _ (W : Width) (d c : ℕ) (cs : List ℕ) where
       go true q s = stands-more (record { row = e .row; val = F (e .row) (again F c t) }) (again F c t) lower filled s (λ _. refl)
       go false q s = stands-more e (again F c t) lower filled s (λ h. absurd (subst T q h))
 
-  again-same-rows : (t : List Beneath) → map (λ (e : Beneath). e .row) (again F c t) ≡ map (λ (e : Beneath). e .row) t
-  again-same-rows [] = refl
-  again-same-rows (e ∷ t) = go (inside c (cl e)) ∙ ap (λ (rs : List Row). e .row ∷ rs) (again-same-rows t)
-    where
-      go : (b : Bool) → map (λ (x : Beneath). x .row) (againIf F b e (again F c t)) ≡ e .row ∷ map (λ (x : Beneath). x .row) (again F c t)
-      go true = refl
-      go false = refl
-
 -- ---- a rescored table
 
 module _ (W : Width) (t : Table) (c : ℕ) (z : ℤ) (s : ℕ) where
@@ -163,7 +155,7 @@ module _ (W : Width) (t : Table) (c : ℕ) (z : ℤ) (s : ℕ) where
       ap (downTo (rowAt new)) (sym new-count)
       ∙ sym (down-map (λ (e : Beneath). e .row) (entryAt new) (new .rows))
       ∙ ap (map (λ (e : Beneath). e .row)) entries-new
-      ∙ again-same-rows W (t .degree) c (clustersIn t) put
+      ∙ again-rows (workedOut W (t .degree) (clustersIn t)) c put
       ∙ map-through (putEntry c z s) (λ (e : Beneath). e .row) (λ (e : Beneath). putScore c z s (e .row)) (λ e. refl) entries
       ∙ down-map (λ (e : Beneath). putScore c z s (e .row)) (entryAt t) (t .rows)
 

@@ -2,6 +2,7 @@
 --     isZero→, nothing→, →nothing, isBlank→     the tests as facts
 --     nothing-is            no mark, mark and best weight, in the order of the code's tests
 --     Blank, empty→blank, blank-entry, blank→empty     row i of a table is all zero, array by array
+--     empty-entry, entry-empty     and as the empty row
 --     blank-past            past its rows, and past its arrays, a table shows nothing but zeros
 -- Assumes nothing.
 use mathlib.Core.Path.{_≡_, sym, ap, _∙_, subst}
@@ -21,7 +22,7 @@ use Rattle.trees.specs.Result.{Result, blank}
 use Rattle.kept.specs.declared.blank.Fields.{Fields}
 use Rattle.kept.specs.declared.table.Table.{Table}
 use Rattle.kept.specs.View.{rowAt, resultAt, entryAt}
-use Rattle.kept.specs.Blank.{isZero, isNothing, isBlank, isEmpty}
+use Rattle.kept.specs.Blank.{isZero, isNothing, isBlank, isEmpty, emptyRow}
 use Rattle.kept.specs.Arrays.{Sized}
 use Rattle.kept.specs.Fields.{resultIn}
 
@@ -99,7 +100,7 @@ empty→blank t i h =
     }
 
 pub blank-entry : (t : Table) (i : ℕ) → Blank t i
-    → entryAt t i ≡ record { row = record { cluster = 0; weight = pos 0; state = 0 }; val = blank }
+    → entryAt t i ≡ emptyRow
 blank-entry t i b = λ k. record {
   row = record { cluster = b .cluster k; weight = b .weight k; state = b .state k };
   val = record {
@@ -111,8 +112,14 @@ blank-entry t i b = λ k. record {
   };
 }
 
+pub empty-entry : (t : Table) (i : ℕ) → T (isEmpty (entryAt t i)) → entryAt t i ≡ emptyRow
+empty-entry t i h = blank-entry t i (empty→blank t i h)
+
+pub entry-empty : {e : Entry Result} → e ≡ emptyRow → T (isEmpty e)
+entry-empty q = subst (λ (e : Entry Result). T (isEmpty e)) (sym q) tt
+
 pub blank→empty : (t : Table) (i : ℕ) → Blank t i → T (isEmpty (entryAt t i))
-blank→empty t i b = subst (λ (e : Entry Result). T (isEmpty e)) (sym (blank-entry t i b)) tt
+blank→empty t i b = entry-empty (blank-entry t i b)
 
 -- past the array's end there is nothing but the default
 pub blank-past : (t : Table) → Sized t → ((i : ℕ) → t .rows ≤ i → i < rowCap → T (isEmpty (entryAt t i)))

@@ -1,6 +1,7 @@
 -- The clusters of the first rows, and their marks by row number.
 --     clusters-are         the clusters of the first rows, as entries and as an array have them
 --     Ascends cs n, rising-part     the first n ascend; fewer rows do so too
+--     rises-once               no two of them are one cluster
 --     isRising→, →isRising     the test of it
 --     rising-more, rising-stop, rising-end     the test from the last cluster down
 --     mark-down            the mark of row i among the first clusters
@@ -12,7 +13,7 @@ use mathlib.Core.Bool.{Bool, true, false, not, _&&_, _||_, or-false}
 use mathlib.Core.List.{List, map}
 use mathlib.Core.List.{List·Memᴰ as Mem}
 use Prim.Native.Nat.{ℕ, zero, suc, _-_, _^_, _≤_, _<_}
-use native.Mathlib.Decide.{ℕ-discrete}
+use native.Mathlib.Decide.{decLe, ℕ-discrete}
 use native.Mathlib.Omega.{arith}
 use borrow.Author.Tests.{eq-eqb, ne-eqb, lt-ltb, le-ltb}
 use lib.Dec.{T, eqb, ltb, eqb→eq, ltb→lt, lt→ltb}
@@ -60,6 +61,14 @@ module _ (cs : List ℕ) where
 
   pub →isRising : (n : ℕ) → Ascends n → T (isRising cs n)
   →isRising n f = down→every isBelow (λ (j : ℕ). j) (n - 1) (λ j l. lt→ltb _ _ (f j (suc j) (omega arith) (omega arith)))
+
+  pub rises-once : (n i j : ℕ) → Ascends n → i < n → j < n → getD cs i 0 ≡ getD cs j 0 → i ≡ j
+  rises-once n i j up a b e = go (decLe i j) (decLe j i)
+    where
+      go : Dec (i ≤ j) → Dec (j ≤ i) → i ≡ j
+      go (yes h) (yes k) = omega arith
+      go (yes h) (no k) = absurd (omega (arith, up i j (omega arith) b, e))
+      go (no h) k = absurd (omega (arith, up j i (omega arith) a, e))
 
   -- the cluster before the last of i
   before-last : (i : ℕ) → 1 < i → suc (i - 1 - 1) ≡ i - 1

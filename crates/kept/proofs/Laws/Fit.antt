@@ -32,6 +32,7 @@ use Rattle.kept.specs.Facts.{FitRow, FitTable}
 use Rattle.kept.specs.View.{entryAt, entriesOf, clustersIn, clustersDown}
 use Rattle.kept.specs.Results.{isRanged, isMatched}
 use Rattle.kept.specs.Fit.{fitEntry, isRising, isRowRight, hasRightRows, isFit}
+use Rattle.kept.proofs.Laws.Blank.{empty-entry, entry-empty}
 use Rattle.kept.proofs.Laws.Clusters.{clusters-are, Ascends, isRising→, →isRising}
 use Rattle.kept.proofs.Laws.Results.{ranged→, →ranged, matched→, →matched}
 
@@ -100,7 +101,7 @@ module _ (W : Width) (facts : WidthFacts W) (t : Table) where
         bounds = record { degree = a .0; filled = leb→le _ _ (b .0); capped = most };
         rising = isRising→ (t .clusters) (t .rows) (e .0);
         fit = λ i l. fit→ W (clustersIn t) (entryAt t i) (rw (lt-leb (t .rows) i l) at (right i (omega (arith, facts .rows, most))));
-        blank = λ i l m. rw (le-leb (t .rows) i l) at (right i m);
+        past = λ i l m. empty-entry t i (rw (le-leb (t .rows) i l) at (right i m));
       }
 
   pub unfit : (FitTable W t → ⊥) → isFit W t ≡ false
@@ -117,7 +118,7 @@ module _ (W : Width) (t : Table) where
       (→right W (clustersIn t) t (t .rows) rowCap (λ i l. go i l (decLe (t .rows) i))))))
     where
       go : (i : ℕ) → i < rowCap → Dec (t .rows ≤ i) → T (isRowRight W (clustersIn t) (t .rows) i (entryAt t i))
-      go i l (yes h) = rw (le-leb (t .rows) i h) (f .blank i h l)
+      go i l (yes h) = rw (le-leb (t .rows) i h) (entry-empty (f .past i h l))
       go i l (no h) = rw (lt-leb (t .rows) i (omega arith)) (→fit W (clustersIn t) (entryAt t i) (f .fit i (omega arith)))
 
   -- where degree bound, number and clusters are right, the rows tell

@@ -4,7 +4,7 @@
 --     matchedTests, matched-is        a count that isn't zero, as the code tests it
 --     most-is, minus-fits             the bound of a best weight, as the code has it
 -- Assumes nothing.
-use mathlib.Core.Path.{_≡_, sym, ap, _∙_}
+use mathlib.Core.Path.{_≡_, sym, ap, _∙_, subst}
 use mathlib.Core.Logic.{⊎-elim, ⊎-map, _≢_}
 use mathlib.Core.Bool.{Bool, _&&_, _||_, and-assoc}
 use mathlib.Core.List.{List}
@@ -33,7 +33,7 @@ use Rattle.kept.specs.Results.{isLength, isMark, isRanged, isLight, isMa
 use Rattle.kept.specs.Arrays.{Rising}
 use Rattle.kept.specs.Facts.{Ranged, Matched}
 use Rattle.kept.specs.Fields.{listedIn, resultIn, everyBit, isMarkFit}
-use Rattle.kept.proofs.Laws.Blank.{nothing→, →nothing}
+use Rattle.kept.proofs.Laws.Blank.{nothing→, →nothing, isBlank→}
 use Rattle.kept.proofs.Laws.Clusters.{everyMarked-is, isMarkedIn-is}
 use Rattle.kept.proofs.Laws.Words.{words-are}
 
@@ -49,7 +49,7 @@ module _ (W : Width) (r : Row) (v : Result) where
         counted = leb→le _ _ (q .0);
         marked = ⊎-map (eqb→eq _ 0) mark-one (T-or (eqb (v .mark) 0) _ (s .0));
         taxon = λ k. eqb→eq _ 0 (imp→ (single (r .cluster)) _ (l .1) k);
-        unscored = else→ (isScored r) (isBlank v) (s .1);
+        unscored = λ n. isBlank→ v (else→ (isScored r) (isBlank v) (s .1) n);
       }
     where
       mark-one : T (eqb (v .mark) 1 && eqb (v .count) (W .countMax)) → (v .mark ≡ 1) × (v .count ≡ W .countMax)
@@ -59,7 +59,8 @@ module _ (W : Width) (r : Row) (v : Result) where
   →ranged f =
       and-T (isLength W r v) _ length-in
       (and-T (leb (v .count) (W .countMax)) _ (le→leb _ _ (f .counted))
-      (and-T (isMark W (v .mark) (v .count)) _ mark-in (→else (isScored r) (isBlank v) (f .unscored))))
+      (and-T (isMark W (v .mark) (v .count)) _ mark-in
+      (→else (isScored r) (isBlank v) (λ n. subst (λ (x : Result). T (isBlank x)) (sym (f .unscored n)) tt))))
     where
       length-in : T (isLength W r v)
       length-in =

@@ -1,62 +1,80 @@
 -- Looking up rows.
 --     isClusterAt          the test of one place
+--     place-at, place-none, place-iff     the row of a cluster, in any table: it has it; or none has, and all that are looked at are told
 --     placeOf-at           the row of a cluster has it
 --     hasRow-is            a cluster has a row exactly where its place is below the number of rows
 --     union-more           the union of the first clusters, one more
 -- Assumes nothing.
 use mathlib.Core.Path.{_≡_, sym, ap, _∙_, subst}
-use mathlib.Core.Logic.{_⊎_, inl, inr, _↔_}
+use mathlib.Core.Logic.{_↔_}
 use mathlib.Core.Bool.{Bool}
 use mathlib.Core.List.{List}
 use Prim.Native.Nat.{ℕ, _+_, _≤_, _<_}
+use native.Mathlib.Decide.{decLt}
 use native.Mathlib.Nat.{min-eq-left}
 use native.Mathlib.Numerals.{add-one}
 use native.Mathlib.Omega.{arith}
 use borrow.Author.Tests.{eq-eqb, eqb-true}
 use lib.Bits.{bitOr, or-comm}
-use lib.Dec.{T, eqb, ltb, ltb→lt}
+use lib.Dec.{T, eqb, ltb, ltb→lt, lt→ltb}
 use lib.ListN.{getD}
 use Rattle.laws.specs.Cluster.{unionOf}
 use Rattle.laws.specs.Lists.{elem}
 use Rattle.laws.specs.Limits.{rowCap}
 use Rattle.laws.proofs.Down.{elem-down-iff}
-use Rattle.laws.proofs.First.{first-at, unfound-iff}
-use Rattle.laws.proofs.Tests.{bool-ext, T-dec}
+use Rattle.laws.proofs.First.{first-high, first-at, unfound-iff}
+use Rattle.laws.proofs.Tests.{bool-ext}
 use Rattle.kept.specs.declared.table.Table.{Table}
 use Rattle.kept.specs.View.{clustersDown}
-use Rattle.kept.specs.Rows.{placeAmong, placeOf, hasRow}
+use Rattle.kept.specs.Rows.{shownRows, placeOf, hasRow}
 use Rattle.kept.proofs.Laws.Clusters.{clusters-are}
 
 abbrev pub isClusterAt : List ℕ → ℕ → ℕ → Bool
 isClusterAt cs c i = eqb (getD cs i 0) c
 
+-- ---- in any table
+module _ (t : Table) (c : ℕ) where
+  pub place-at : placeOf t c < shownRows t → getD (t .clusters) (placeOf t c) 0 ≡ c
+  place-at h = eqb-true _ _ (first-at (isClusterAt (t .clusters) c) 0 (shownRows t) (omega (arith, h)))
+
+  pub place-none : (placeOf t c < shownRows t → ⊥) → placeOf t c ≡ shownRows t
+  place-none n = go (decLt (placeOf t c) (shownRows t))
+    where
+      go : Dec (placeOf t c < shownRows t) → placeOf t c ≡ shownRows t
+      go (yes h) = absurd (n h)
+      go (no f) = omega (arith, first-high (isClusterAt (t .clusters) c) 0 (shownRows t))
+
+  pub place-iff : (placeOf t c < shownRows t) ↔ ((i : ℕ) × (i < shownRows t) × (getD (t .clusters) i 0 ≡ c))
+  place-iff = (λ h. (placeOf t c, h, place-at h), λ q. go q (decLt (placeOf t c) (shownRows t)))
+    where
+      go : (i : ℕ) × (i < shownRows t) × (getD (t .clusters) i 0 ≡ c) → Dec (placeOf t c < shownRows t) → placeOf t c < shownRows t
+      go q (yes h) = h
+      go q (no f) =
+          let none = unfound-iff (isClusterAt (t .clusters) c) (shownRows t) .0 (λ h. f (ltb→lt (placeOf t c) (shownRows t) h)) in
+          absurd (subst T (sym (eq-eqb _ _ (q .2)) ∙ none (q .0) (q .1)) tt)
+
 -- ---- in a table with no more rows than there is room for
 module _ (t : Table) (capped : t .rows ≤ rowCap) (c : ℕ) where
-  shown : placeOf t c ≡ placeAmong (t .clusters) (t .rows) c
-  shown = ap (λ (n : ℕ). placeAmong (t .clusters) n c) (min-eq-left capped)
+  all-shown : shownRows t ≡ t .rows
+  all-shown = min-eq-left capped
 
   pub placeOf-at : placeOf t c < t .rows → getD (t .clusters) (placeOf t c) 0 ≡ c
-  placeOf-at h =
-      let l = subst (λ (p : ℕ). p < t .rows) shown h in
-      rw shown (eqb-true _ _ (first-at (isClusterAt (t .clusters) c) 0 (t .rows) (omega arith)))
+  placeOf-at h = place-at t c (omega (arith, all-shown, h))
 
   pub hasRow-is : hasRow t c ≡ ltb (placeOf t c) (t .rows)
   hasRow-is =
       ap (elem c) (clusters-are t (t .rows))
-      ∙ bool-ext (elem c (clustersDown (t .clusters) (t .rows))) isFound (λ h. found (one-of .0 h) (T-dec isFound))
+      ∙ bool-ext (elem c (clustersDown (t .clusters) (t .rows))) (ltb (placeOf t c) (t .rows)) found
       (λ h. let l = ltb→lt (placeOf t c) (t .rows) h in one-of .1 (placeOf t c, l, sym (placeOf-at l)))
     where
-      isFound : Bool
-      isFound = ltb (placeOf t c) (t .rows)
-
       one-of : T (elem c (clustersDown (t .clusters) (t .rows))) ↔ ((j : ℕ) × (j < t .rows) × (c ≡ getD (t .clusters) j 0))
       one-of = elem-down-iff (λ (j : ℕ). getD (t .clusters) j 0) (t .rows) c
 
-      found : (j : ℕ) × (j < t .rows) × (c ≡ getD (t .clusters) j 0) → T isFound ⊎ (T isFound → ⊥) → T isFound
-      found q (inl h) = h
-      found q (inr n) =
-          let none = unfound-iff (isClusterAt (t .clusters) c) (t .rows) .0 (subst (λ (p : ℕ). T (ltb p (t .rows)) → ⊥) shown n) in
-          absurd (subst T (sym (eq-eqb _ _ (sym (q .2))) ∙ none (q .0) (q .1)) tt)
+      found : T (elem c (clustersDown (t .clusters) (t .rows))) → T (ltb (placeOf t c) (t .rows))
+      found h =
+          let q = one-of .0 h in
+          let l = place-iff t c .1 (q .0, omega (arith, all-shown, q .1), sym (q .2)) in
+          lt→ltb (placeOf t c) (t .rows) (omega (arith, all-shown, l))
 
 -- ---- unions
 pub union-more : (cs : List ℕ) (i : ℕ) → bitOr (unionOf (clustersDown cs i)) (getD cs i 0) ≡ unionOf (clustersDown cs (i + 1))

@@ -32,8 +32,8 @@ use Rattle.kept.specs.View.{rowAt, entryAt, entriesOf, clustersIn, tableOf}
 use Rattle.kept.specs.Fit.{fitEntry, isFit}
 use Rattle.kept.specs.Rows.{placeOf, hasRow}
 use Rattle.kept.specs.Arrays.{Sized}
-use Rattle.kept.specs.Blank.{isEmpty}
 use Rattle.kept.specs.Facts.{FitTable}
+use Rattle.kept.proofs.Laws.Blank.{entry-empty}
 use Rattle.kept.proofs.Laws.Fit.{isFit→, →fit}
 use Rattle.kept.proofs.Laws.Clusters.{clusters-are}
 use Rattle.kept.proofs.Laws.Rows.{hasRow-is, placeOf-at}
@@ -169,7 +169,7 @@ module _ (W : Width) (facts : WidthFacts W) (t : Table) (c : ℕ) (z : ℤ) (s :
     fit = score-fit;
     words = words;
     blank = λ j l m.
-        subst (λ (e : Entry Result). T (isEmpty e)) (sym (score-other t i z s j (λ e. omega arith))) (known .blank j l m);
+        entry-empty (score-other t i z s j (λ e. omega arith) ∙ known .past j l m);
   }
 
   -- as the code has it: the weight through its bits

@@ -27,7 +27,7 @@ use Rattle.laws.proofs.Down.{down-length, down-mem}
 use Rattle.cluster.specs.Rule.{isScore, keepsRules}
 use Rattle.cluster.proofs.Laws.Rule.{score→keeps, rules→, →rules}
 use Rattle.trees.specs.Rows.{Entry, cl}
-use Rattle.trees.specs.Result.{Result, blank}
+use Rattle.trees.specs.Result.{Result}
 use Rattle.trees.specs.Built.{builtTable}
 use Rattle.trees.specs.Rescored.{putScore, workedOut, again, rescored}
 use Rattle.trees.proofs.Rescore.{put-cluster, put-other, again-clusters}
@@ -38,7 +38,7 @@ use Rattle.kept.specs.Fit.{fitEntry, isFit}
 use Rattle.table.specs.Rescore.{newTable}
 use Rattle.table.proofs.Fitting.AgainFit.{Listed, again-fit}
 use Rattle.kept.proofs.Laws.Fit.{fit-rules, fit→, isFit→, →isFit, fit-falls, fit-each, entries-rising}
-use Rattle.kept.proofs.Laws.Blank.{blank→empty}
+use Rattle.kept.proofs.Laws.Blank.{blank-entry}
 use Rattle.kept.proofs.Laws.View.{entries-table, table-past}
 use Rattle.laws.proofs.Width.{degree-range}
 use Rattle.table.proofs.Laws.Build.{Buildable, unworkedRow, unworked-clusters, again-built}
@@ -76,7 +76,7 @@ table-fit W d es f = →isFit W t (record {
   rising = entries-rising t (rw (entries-table d es) (f .falls));
   fit = λ i l. fit→ W (clustersIn t) (entryAt t i) (rw (entries-table d es)
       (f .each (entryAt t i) (subst (Mem (entryAt t i)) (entries-table d es) (down-mem (entryAt t) (length es) i l))));
-  blank = λ i l m. blank→empty t i (table-past d es i l);
+  past = λ i l m. blank-entry t i (table-past d es i l);
 })
   where
     t : Table

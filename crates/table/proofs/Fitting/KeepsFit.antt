@@ -43,7 +43,6 @@ use Rattle.trees.proofs.Bounds.TupleBound.{entries-le}
 use Rattle.trees.proofs.Counting.Worked.{markIn, lengthIf, trueResult, AllCounted, worked-encode}
 use Rattle.kept.specs.Fit.{fitEntry}
 use Rattle.kept.specs.Marks.{isMarkedIn}
-use Rattle.kept.specs.Blank.{isBlank}
 use Rattle.kept.specs.Facts.{Ranged, Matched}
 use Rattle.kept.proofs.Laws.Fit.{→fit}
 use Rattle.table.specs.Searched.{GoodRow}
@@ -174,7 +173,7 @@ module _ (limit : ℕ) (one-limit : 1 ≤ limit) (cs : List ℕ) (falls : Fallin
 
 module _ (W : Width) (one-limit : 1 ≤ W .countMax) (cs : List ℕ) (r : Row) (n : ℕ) where
   encode-ranged : (v : Option Sol) → RootedSol cs (r .cluster) v → n ≤ W .lengthMax → (T (single (r .cluster)) → n ≡ 0)
-      → ((T (isScored r) → ⊥) → T (isBlank (encodeSol (W .countMax) n v))) → Ranged W r (encodeSol (W .countMax) n v)
+      → ((T (isScored r) → ⊥) → encodeSol (W .countMax) n v ≡ blank) → Ranged W r (encodeSol (W .countMax) n v)
   encode-ranged none k l s b = record { tuples = l; counted = zero-le; marked = inl refl; taxon = s; unscored = b }
   encode-ranged (some x) k l s b =
       let q = fields-range (W .countMax) (x .0) one-limit (k .held .counted) in
@@ -224,6 +223,6 @@ module _ (W : Width) (one-limit : 1 ≤ W .countMax) (d : ℕ) (cs : List ℕ) (
       no-length s false h = absurd h
 
       no-result : (s b : Bool) → (T s → ⊥)
-          → T (isBlank (encodeSol (W .countMax) (lengthIf (s && not b) count) (valueIf (solKind (markIn cs)) s b d r (map second rows))))
+          → encodeSol (W .countMax) (lengthIf (s && not b) count) (valueIf (solKind (markIn cs)) s b d r (map second rows)) ≡ blank
       no-result true b n = absurd (n tt)
-      no-result false b n = tt
+      no-result false b n = refl

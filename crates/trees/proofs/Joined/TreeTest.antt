@@ -5,19 +5,20 @@
 --     trees-once                  no tree of the definition is listed twice
 --     right-list, list-right      a list that holds the families that are trees, and the trees of the definition
 --     right-count                 both have the same number
+--     test-same                   the order of the members plays no part in the test
 -- Assumes nothing.
 use mathlib.Core.Path.{_≡_, sym, ap, _∙_, subst}
 use mathlib.Core.Logic.{_⊎_, inl, inr}
 use mathlib.Core.Bool.{Bool, not, _&&_, _||_}
 use mathlib.Core.List.{List, map, Memᴰ·map, Memᴰ·of-map, Memᴰ·cast, List·Memᴰ as Mem}
 use Prim.Native.Nat.{ℕ, _-_, _^_, _<_}
-use lib.Dec.{T, leb, T-not, not-T}
+use lib.Dec.{T, eqb, leb, T-not, not-T}
 use lib.ListN.{length, length-map}
 use Rattle.laws.specs.Cluster.{inside, strict, nested, single, taxa}
-use Rattle.laws.specs.Lists.{keep, every, any, elem, sublists, Once}
+use Rattle.laws.specs.Lists.{keep, every, any, elem, sublists, Once, Same}
 use Rattle.laws.proofs.Falling.{sublist-is-elem}
-use Rattle.laws.proofs.Tests.{T-and, and-T, T-or, or-l, or-r, T-dec}
-use Rattle.laws.proofs.Keep.{mem-keep, mem-of-keep, every→, →every, keep-ext, keep-keep, any-keep, elem→, →elem}
+use Rattle.laws.proofs.Tests.{T-and, and-T, T-or, or-l, or-r, T-dec, bool-ext}
+use Rattle.laws.proofs.Keep.{mem-keep, mem-of-keep, every→, →every, any→, →any, keep-ext, keep-keep, any-keep, elem→, →elem}
 use Rattle.laws.proofs.Once.{once-keep, once-map, once-length}
 use Rattle.laws.proofs.Sublists.{sublists-keep, mem-of-sublist, sublists-once}
 use Rattle.laws.proofs.Taxa.{taxa-mem, mem-taxa}
@@ -184,3 +185,41 @@ module _ (G : Given) where
 
           from : (xs : List ℕ) → Mem xs trees → Mem xs (map as-list ts)
           from xs m = Memᴰ·cast (sublist-is-elem (G .listed) xs (G .once) (tree-of xs m .0)) (Memᴰ·map as-list (right-list xs m))
+
+-- ---- the order of the members plays no part
+
+module _ (G : Given) (C : ℕ) (xs ys : List ℕ) (once : Once xs) (alone : Once ys) (same : Same xs ys) where
+  any-same : (p : ℕ → Bool) → any p xs ≡ any p ys
+  any-same p =
+      bool-ext (any p xs) (any p ys) (λ h. let q = any→ p xs h in →any p ys (same .to (q .0) (q .1)) (q .2))
+      (λ h. let q = any→ p ys h in →any p xs (same .from (q .0) (q .1)) (q .2))
+
+  -- a child, by the members of a list
+  abbrev isChild : List ℕ → ℕ → ℕ → Bool
+  isChild l m k = strict k m && not (any (λ (c : ℕ). strict c m && strict k c) l)
+
+  child-same : (m k : ℕ) → isChild xs m k ≡ isChild ys m k
+  child-same m k = ap (λ (b : Bool). strict k m && not b) (any-same (λ (c : ℕ). strict c m && strict k c))
+
+  children-same : (m : ℕ) → length (children xs m) ≡ length (children ys m)
+  children-same m =
+      once-length (children xs m) (children ys m) (once-keep (isChild xs m) xs once) (once-keep (isChild ys m) ys alone)
+      (λ k j. let q = mem-of-keep (isChild xs m) xs j in mem-keep (isChild ys m) ys (same .to k (q .0)) (subst T (child-same m k) (q .1)))
+      (λ k j. let q = mem-of-keep (isChild ys m) ys j in
+      mem-keep (isChild xs m) xs (same .from k (q .0)) (subst T (sym (child-same m k)) (q .1)))
+
+  pub test-same : T (isTree (G .width) (G .degree) C xs) → T (isTree (G .width) (G .degree) C ys)
+  test-same h =
+      let p = passed G C xs h in passes G C ys (record {
+        within = →every (λ (m : ℕ). inside m C) ys (λ m k. every→ (λ (m : ℕ). inside m C) xs (p .within) m (same .from m k));
+        top = →elem C ys (same .to C (elem→ C xs (p .top)));
+        leaves = →every (λ (u : ℕ). not (inside u C) || elem u ys) (taxa (G .width)) (λ u k.
+            subst (λ (b : Bool). T (not (inside u C) || b)) (any-same (λ (x : ℕ). eqb u x))
+            (every→ (λ (u : ℕ). not (inside u C) || elem u xs) (taxa (G .width)) (p .leaves) u k));
+        laminar = →every (λ (a : ℕ). every (λ (b : ℕ). nested a b) ys) ys (λ a j.
+            →every (λ (b : ℕ). nested a b) ys (λ b k. every→ (λ (b : ℕ). nested a b) xs
+            (every→ (λ (a : ℕ). every (λ (b : ℕ). nested a b) xs) xs (p .laminar) a (same .from a j)) b (same .from b k)));
+        bounded = →every (isFew G C ys) ys (λ m k.
+            subst (λ (n : ℕ). T (single m || leb n (G .degree - 1))) (children-same m)
+            (every→ (isFew G C xs) xs (p .bounded) m (same .from m k)));
+      })
