@@ -1,4 +1,5 @@
 -- ONE OUTCOME (RULES 12): of each public operation, two outcomes that its promise allows are equal.
+--     room-only        an answer with the room afterwards, whatever the operation
 --     one-outcome      the table of `specs/OneOutcome.antt`, crate by crate
 -- Assumes nothing.
 use mathlib.Core.Path.{ap₂}
