@@ -1,12 +1,13 @@
 -- DEMAND 1 IS MET: every input has its answer, operation by operation.
 --     demand1      the record of `specs/Demands.antt`
 -- Assumes nothing.
-use mathlib.Core.Path.{_≡_, sym, ap, _∙_, subst}
+use mathlib.Core.Path.{_≡_, refl, sym, ap, _∙_, subst}
 use mathlib.Core.Logic.{_↔_}
 use mathlib.Core.Option.{Option}
 use mathlib.Core.List.{List, []}
-use Prim.Native.Nat.{ℕ, _^_, _≤_, _<_}
+use Prim.Native.Nat.{ℕ, zero, suc, _^_, _≤_, _<_}
 use native.Mathlib.Nat.{le-trans}
+use native.Mathlib.Omega.{arith}
 use lib.Dec.{T}
 use lib.IntN.{ℤ}
 use lib.ListN.{length, getD}
@@ -44,6 +45,7 @@ use Rattle.table.specs.Build.{buildReasons, buildTable}
 use Rattle.table.specs.Rescore.{rescoreReasons, newTable, rescoreTable}
 use Rattle.drawing.specs.Draw.{drawTree, leafText, noText, textAt, drawnText, drawText}
 use Rattle.drawing.proofs.Laws.Draw.{tree-on}
+use Rattle.digests.specs.Digest.{rescoredTimes}
 use Rattle.report.specs.Words.{refusedLine}
 use Rattle.report.specs.Line.{lineCap, lineFor, tableLine, lineOf, lineInto}
 use Rattle.report.proofs.Laws.Line.{line-length-le, line-put}
@@ -149,6 +151,25 @@ module _ (t : Table) where
     unfolding drawText
     text-answered = drawing-answered (leafText t) room
 
+-- ---- the digests
+
+zero-unfit : FitTable narrow zeroTable → ⊥
+zero-unfit f = omega (arith, f .bounds .filled)
+
+module _ (c : ℕ) (z : ℤ) (s : ℕ) where
+  -- a table of noughts isn't fit, so that no rescoring of it is taken
+  zero-rescored : (n : ℕ) → rescoredTimes n c z s zeroTable ≡ zeroTable
+  unfolding rescoredTimes
+  zero-rescored zero = refl
+  zero-rescored (suc n) =
+      ap (λ (t : Table). rescoreTable narrow t c z s .given) (zero-rescored n)
+      ∙ rescore-answered zeroTable c z s .stays (λ e. zero-unfit (rescore-answered zeroTable c z s .taken .0 e .0))
+
+  digested : (l : List ℕ) (d n : ℕ) → (T (isDegree d) × Accepted narrow l → ⊥)
+      → rescoredTimes n c z s (buildTable narrow l d .given) ≡ zeroTable
+  digested l d n f =
+      ap (rescoredTimes n c z s) (build-answered l d .stays (λ e. f (build-answered l d .taken .0 e))) ∙ zero-rescored n
+
 -- ---- the text of any table that may be drawn
 
 module _ (t : Table) (h : MayBeDrawn narrow t) where
@@ -199,6 +220,7 @@ demand1 = record {
   write-record = write-answered;
   read-list = list-answered;
   build = build-answered;
+  digested = λ l d c z s n. digested c z s l d n;
   is-fit = fit-iff narrow narrow-facts;
   place-of = place-iff;
   place-at = place-at;

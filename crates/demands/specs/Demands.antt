@@ -52,6 +52,7 @@ use Rattle.table.specs.Rescore.{newTable, rescoreTable}
 use Rattle.table.specs.Changes.{AcceptedBytes, changeAll, rescoreAll}
 use Rattle.drawing.specs.Built.{listMax}
 use Rattle.drawing.specs.Draw.{drawTree, leafText, noText, textAt, drawnText, drawText}
+use Rattle.digests.specs.Digest.{rescoredTimes}
 use Rattle.report.specs.Words.{signed, refusedLine}
 use Rattle.report.specs.Line.{lineCap, lineOf, lineInto}
 use Rattle.demands.specs.Sending.{accept, sentBack, Answered}
@@ -75,6 +76,9 @@ pub record Demand1 : Type 0 where
       → Answered (readList narrow l) (listRefusals narrow l) (Accepted narrow l) 0 (listed (rowsOf narrow l)) (listed [])
   pub build : (l : List ℕ) (d : ℕ) → let built = tableOf d (builtTable narrow d (rowsOf narrow l)) in
       Answered (buildTable narrow l d) (buildRefusals narrow l d) (T (isDegree d) × Accepted narrow l) 0 built zeroTable
+  -- the digests are those of a table that is built and then rescored some times; it is all zero where the list is refused
+  pub digested : (l : List ℕ) (d c : ℕ) (z : ℤ) (s n : ℕ) → (T (isDegree d) × Accepted narrow l → ⊥)
+      → rescoredTimes n c z s (buildTable narrow l d .given) ≡ zeroTable
   -- any table, of which 128 rows are shown at most: whether it is fit; the row of a cluster, or the number shown where it has none; and
   -- the taxa of the leaf set
   pub is-fit : (t : Table) → T (isFit narrow t) ↔ FitTable narrow t
