@@ -35,10 +35,9 @@ use Rattle.table.specs.Rescore.{rescoreReasons, newTable, rescoreTable}
 use Rattle.table.specs.Changes.{AcceptedBytes, changeAll, rescoreAll}
 use Rattle.table.proofs.Changing.Changes.{changes-accepted}
 use Rattle.table.proofs.Changing.Rescore.{rescore-of}
-use Rattle.table.proofs.Changing.RescoredTables.{rescore-keeps-others}
+use Rattle.table.proofs.Changing.RescoredTables.{new-count, rescore-keeps-others}
 use Rattle.table.proofs.Theorems.{built-rescores-iff, rescore-all-is-build}
 use Rattle.demands.specs.Demands.{Demand3}
-use Rattle.demands.proofs.Worked.Standing.{new-count}
 
 -- ---- what any rescoring leaves alone
 

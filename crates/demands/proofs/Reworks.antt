@@ -23,11 +23,11 @@ use Rattle.kept.specs.Rows.{hasRow}
 use Rattle.kept.proofs.Laws.Fit.{isFit→}
 use Rattle.table.specs.Rescore.{newTable, rescoreTable}
 use Rattle.table.proofs.Changing.Rescore.{rescore-done}
-use Rattle.table.proofs.Changing.RescoredTables.{rescore-accepts-iff}
+use Rattle.table.proofs.Changing.RescoredTables.{rescore-accepts-iff, new-count}
 use Rattle.table.proofs.Fitting.FitTables.{fit-rows, rescored-fit}
 use Rattle.demands.specs.Demands.{Reworks}
 use Rattle.demands.specs.Worked.{WorkedRow}
-use Rattle.demands.proofs.Worked.Standing.{new-count, new-row, new-stands}
+use Rattle.demands.proofs.Worked.Standing.{new-row, new-stands}
 use Rattle.demands.proofs.Worked.Row.{worked-row}
 
 module _ (W : Width) (t : Table) (c : ℕ) (z : ℤ) (s : ℕ) (taken : rescoreTable W t c z s .sent .number ≡ 0) where

@@ -1,6 +1,4 @@
 -- A row that is worked out again stands to the rows of its table as the rules' formulas say.
--- the first key of several tuples, and the counts where there is none
-mod Keys
 -- tuples with no zero count, as keys and as sets
 mod Tuples
 -- a row worked out over all rows of its table

@@ -1,6 +1,7 @@
 -- Lists one behind another, taken apart and put together.
 --     every-append       both pass a test
 --     part-front         a part that lies in the first
+--     append-same        what follows one and the same list is one
 --     Parted s t         neither has an element twice, and they share none
 --     once-of-append     so it is where one behind the other has no element twice
 -- Assumes nothing.
@@ -12,7 +13,7 @@ use Prim.Native.Nat.{ℕ, _+_, _≤_}
 use native.Mathlib.Omega.{arith}
 use lib.Dec.{T}
 use lib.ListN.{length, take, drop, length-drop}
-use lib.Seq.{take-append-le, drop-append-le}
+use lib.Seq.{drop-append-seam, take-append-le, drop-append-le}
 use Rattle.laws.specs.Lists.{every, Once}
 use Rattle.laws.proofs.Tests.{T-and, and-T}
 
@@ -26,6 +27,9 @@ module _ {A : Type 0} where
   pub part-front : (s t : List A) (k n : ℕ) → k + n ≤ length s → take n (drop k (s ++ t)) ≡ take n (drop k s)
   part-front s t k n h =
       ap (take n) (drop-append-le k s t (omega arith)) ∙ take-append-le n (drop k s) t (omega (arith, length-drop k s))
+
+  pub append-same : (s x y : List A) → s ++ x ≡ s ++ y → x ≡ y
+  append-same s x y e = sym (drop-append-seam s x) ∙ ap (drop (length s)) e ∙ drop-append-seam s y
 
   pub record Parted (s t : List A) : Type 0 where
     pub left : Once s

@@ -17,5 +17,7 @@ pub mod Bounds
 pub mod Built
 -- rescoring a built table is the build of the changed rows
 pub mod Rescore
+-- rows worked out again stand over all rows of the table
+pub mod Standing
 -- the theorems that answer the demands
 pub mod Theorems

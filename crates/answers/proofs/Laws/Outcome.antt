@@ -6,10 +6,12 @@
 --     written-refused, written-passed     writing into a room: the first reason that applies; where none does, the room decides
 --     written-short, written-whole     by the room
 --     written-told      a success tells how many were written, which the room has room for
+--     written-ends      where the room alone decides, a success or 11
+--     written-same      what is put into a room that is long enough for the one is one
 --     written-accepts-iff     it is written exactly where no reason applies and the room is long enough
 -- Assumes nothing.
-use mathlib.Core.Path.{_≡_, refl, sym, ap, _∙_}
-use mathlib.Core.Logic.{_↔_}
+use mathlib.Core.Path.{_≡_, refl, sym, ap, ap₂, _∙_}
+use mathlib.Core.Logic.{_⊎_, inl, inr, _↔_}
 use mathlib.Core.Option.{Option, none, some}
 use mathlib.Core.List.{List, [], _∷_, _++_}
 use Prim.Native.Nat.{ℕ, suc, _≤_, _<_}
@@ -17,7 +19,8 @@ use native.Mathlib.Decide.{decLe}
 use native.Mathlib.Omega.{arith}
 use borrow.Author.Tests.{le-leb, lt-leb}
 use lib.Dec.{T, ltb, lt→ltb}
-use lib.ListN.{length, drop}
+use lib.ListN.{length, take, drop}
+use lib.Seq.{take-append-seam}
 use Rattle.answers.specs.declared.refusal.Answer.{Answer}
 use Rattle.answers.specs.declared.refusal.Answer.the-variants.{Done, Refused}
 use Rattle.answers.specs.declared.refusal.Refusal.{Refusal}
@@ -106,3 +109,32 @@ module _ (rs : List Reason) (out l : List ℕ) where
   written-told n m e =
       let q = written-accepts-iff .0 (sym (ap (λ (o : Outcome (List ℕ)). o .sent .number) e)) in
       (ap (λ (o : Outcome (List ℕ)). o .sent .told) (e ∙ written-whole (none-iff rs .1 (q .0)) (q .1)), q .1)
+
+-- ---- where the room alone decides
+
+pub written-ends : (out room : List ℕ) → (written [] out room .sent .number ≡ 0) ⊎ (written [] out room .sent .number ≡ 11)
+written-ends out room = go (decLe (length out) (length room))
+  where
+    go : Dec (length out ≤ length room) → (written [] out room .sent .number ≡ 0) ⊎ (written [] out room .sent .number ≡ 11)
+    go (yes h) = inl (ap (λ (o : Outcome (List ℕ)). o .sent .number) (written-whole [] out room refl h))
+    go (no h) = inr (ap (λ (o : Outcome (List ℕ)). o .sent .number) (written-short [] out room refl (omega arith)))
+
+pub written-same : (x y room : List ℕ) → length x ≤ length room → written [] x room ≡ written [] y room → x ≡ y
+written-same x y room h same =
+    sym (take-append-seam x (drop (length x) room)) ∙ ap₂ take lengths rooms ∙ take-append-seam y (drop (length y) room)
+  where
+    first : written [] x room ≡ outcomeOf (Done (length x)) (x ++ drop (length x) room)
+    first = written-whole [] x room refl h
+
+    -- a success, so there is room for the other too
+    fits : length y ≤ length room
+    fits = written-accepts-iff [] y room .0 (ap (λ (o : Outcome (List ℕ)). o .sent .number) (sym same ∙ first)) .1
+
+    both : outcomeOf (Done (length x)) (x ++ drop (length x) room) ≡ outcomeOf (Done (length y)) (y ++ drop (length y) room)
+    both = sym first ∙ same ∙ written-whole [] y room refl fits
+
+    lengths : length x ≡ length y
+    lengths = ap (λ (o : Outcome (List ℕ)). o .sent .told) both
+
+    rooms : x ++ drop (length x) room ≡ y ++ drop (length y) room
+    rooms = ap (λ (o : Outcome (List ℕ)). o .given) both

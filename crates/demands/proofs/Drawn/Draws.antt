@@ -1,14 +1,12 @@
 -- What is drawn of a built table, in words: demand 2 of tree and text.
---     room-told         putting something into a room succeeds, or is refused 11
 --     tree-on           the first heaviest tree is a tree on the leaf set
 --     draws             the built table of a list draws its first heaviest tree
 -- Assumes nothing.
-use mathlib.Core.Path.{_≡_, refl, sym, ap, _∙_}
+use mathlib.Core.Path.{_≡_, sym, ap, _∙_}
 use mathlib.Core.Logic.{_⊎_, inl, inr, ⊎-map, _≢_, _↔_}
 use mathlib.Core.Option.{some, Option·some-injective}
 use mathlib.Core.List.{List, []}
 use Prim.Native.Nat.{ℕ, _≤_, _<_}
-use native.Mathlib.Decide.{decLe}
 use native.Mathlib.Omega.{arith}
 use lib.ListN.{length}
 use Rattle.laws.specs.Cluster.{size}
@@ -25,7 +23,7 @@ use Rattle.shapes.specs.Drawn.{ascending, shapeOf, textOf}
 use Rattle.shapes.specs.Nests.{TreeOn}
 use Rattle.shapes.proofs.Theorems.{trees-on, shape-only}
 use Rattle.answers.specs.Outcome.{Outcome, written}
-use Rattle.answers.proofs.Laws.Outcome.{written-short, written-whole}
+use Rattle.answers.proofs.Laws.Outcome.{written-ends}
 use Rattle.lists.specs.Records.{rowsOf}
 use Rattle.kept.specs.declared.table.Table.{Table}
 use Rattle.table.proofs.Laws.Build.{Buildable}
@@ -41,16 +39,9 @@ use Rattle.demands.proofs.Drawn.First.{→found, first-there}
 
 -- ---- into a room
 
-pub room-told : (out room : List ℕ) → (written [] out room .sent .number ≡ 0) ⊎ (written [] out room .sent .number ≡ 11)
-room-told out room = go (decLe (length out) (length room))
-  where
-    go : Dec (length out ≤ length room) → (written [] out room .sent .number ≡ 0) ⊎ (written [] out room .sent .number ≡ 11)
-    go (yes h) = inl (ap (λ (o : Outcome (List ℕ)). o .sent .number) (written-whole [] out room refl h))
-    go (no h) = inr (ap (λ (o : Outcome (List ℕ)). o .sent .number) (written-short [] out room refl (omega arith)))
-
 -- neither 7 nor 8
 never : (n : ℕ) → 0 < n → n < 11 → (out room : List ℕ) → written [] out room .sent .number ≢ n
-never n p h out room e = go (room-told out room)
+never n p h out room e = go (written-ends out room)
   where
     go : (written [] out room .sent .number ≡ 0) ⊎ (written [] out room .sent .number ≡ 11) → ⊥
     go (inl z) = omega (arith, z, e)

@@ -1,56 +1,30 @@
 -- Printed lines told apart by their bytes, and the count as it is printed.
---     written-same      what is put into a room that is long enough for the one is one
 --     tree-not-refused, seven-not-eight     no line of a tree is that of a refusal, and that of 7 isn't that of 8
 --     count-printed     the count and mark of a row, as they are printed
 -- Assumes nothing.
-use mathlib.Core.Path.{_≡_, refl, sym, ap, ap₂, _∙_, subst}
+use mathlib.Core.Path.{_≡_, sym, ap, _∙_, subst}
 use mathlib.Core.Logic.{_⊎_, inl, inr, _≢_}
 use mathlib.Core.Bool.{Bool, true, false, cond}
-use mathlib.Core.List.{List, [], _∷_, _++_, append-assoc}
+use mathlib.Core.List.{List, _∷_, _++_, append-assoc}
 use Prim.Native.Nat.{ℕ, _≤_, _<_}
 use native.Mathlib.Omega.{arith}
 use lib.Dec.{T, eqb, leb, leb→le, le→leb}
 use lib.IntN.{ℤ}
-use lib.ListN.{length, getD, take, drop}
-use lib.Seq.{take-append-seam, drop-append-seam}
+use lib.ListN.{length, getD}
 use Rattle.laws.specs.Limits.{narrow}
 use Rattle.laws.specs.Lists.{every}
 use Rattle.laws.specs.Row.{Row}
+use Rattle.laws.proofs.Split.{append-same}
 use Rattle.laws.proofs.Tests.{T-and, cond-true, cond-false}
 use Rattle.trees.specs.Result.{Result}
 use Rattle.trees.proofs.Counting.Capped.{past}
 use Rattle.shapes.specs.Characters.{characters}
 use Rattle.shapes.specs.Decimal.{figure, decimal}
 use Rattle.shapes.proofs.Decimal.{isFigure, decimal-figures, decimal-some, decimal-one}
-use Rattle.answers.specs.declared.refusal.Answer.the-variants.{Done}
-use Rattle.answers.specs.Outcome.{Outcome, outcomeOf, written}
-use Rattle.answers.proofs.Laws.Outcome.{written-whole, written-accepts-iff}
 use Rattle.report.specs.Words.{signed, countWord, placeWord, refusedLine, treeLine}
 use Rattle.report.proofs.Laws.Words.{countWord-one, countWord-many}
 use Rattle.demands.specs.Sending.{sentBack}
 use Rattle.demands.specs.Trees.{TellsTrees, printedCount}
-
--- ---- what is put into a room
-
-pub written-same : (x y room : List ℕ) → length x ≤ length room → written [] x room ≡ written [] y room → x ≡ y
-written-same x y room h same =
-    sym (take-append-seam x (drop (length x) room)) ∙ ap₂ take lengths rooms ∙ take-append-seam y (drop (length y) room)
-  where
-    first : written [] x room ≡ outcomeOf (Done (length x)) (x ++ drop (length x) room)
-    first = written-whole [] x room refl h
-
-    -- a success, so there is room for the other too
-    fits : length y ≤ length room
-    fits = written-accepts-iff [] y room .0 (ap (λ (o : Outcome (List ℕ)). o .sent .number) (sym same ∙ first)) .1
-
-    both : outcomeOf (Done (length x)) (x ++ drop (length x) room) ≡ outcomeOf (Done (length y)) (y ++ drop (length y) room)
-    both = sym first ∙ same ∙ written-whole [] y room refl fits
-
-    lengths : length x ≡ length y
-    lengths = ap (λ (o : Outcome (List ℕ)). o .sent .told) both
-
-    rooms : x ++ drop (length x) room ≡ y ++ drop (length y) room
-    rooms = ap (λ (o : Outcome (List ℕ)). o .given) both
 
 -- ---- lines of trees and of refusals
 
@@ -84,14 +58,10 @@ tree-split d c m best text = simp append-assoc
 refused-split : (d n p : ℕ) → refusedLine d (sentBack n p) ≡ decimal d ++ refusedRest n p
 refused-split d n p = simp append-assoc
 
-rest-same : (d : ℕ) (x y : List ℕ) → decimal d ++ x ≡ decimal d ++ y → x ≡ y
-rest-same d x y e =
-    sym (drop-append-seam (decimal d) x) ∙ ap (drop (length (decimal d))) e ∙ drop-append-seam (decimal d) y
-
 pub tree-not-refused : (d c m : ℕ) (best : ℤ) (text : List ℕ) (n p : ℕ) → treeLine d c m best text ≢ refusedLine d (sentBack n p)
 tree-not-refused d c m best text n p e =
     count-start c m (weightOn best text)
-    (ap (λ (x : List ℕ). getD x 1 0) (rest-same d (treeRest c m best text) (refusedRest n p)
+    (ap (λ (x : List ℕ). getD x 1 0) (append-same (decimal d) (treeRest c m best text) (refusedRest n p)
     (sym (tree-split d c m best text) ∙ e ∙ refused-split d n p)))
 
 -- the figure of a refusal's number
@@ -100,7 +70,7 @@ figure-at n h = ap (λ (x : List ℕ). getD (characters " refused " ++ (x ++ (pl
 
 pub seven-not-eight : (d : ℕ) → refusedLine d (sentBack 7 0) ≢ refusedLine d (sentBack 8 0)
 seven-not-eight d e =
-    let same = rest-same d (refusedRest 7 0) (refusedRest 8 0) (sym (refused-split d 7 0) ∙ e ∙ refused-split d 8 0) in
+    let same = append-same (decimal d) (refusedRest 7 0) (refusedRest 8 0) (sym (refused-split d 7 0) ∙ e ∙ refused-split d 8 0) in
     omega (arith, ap (λ (x : List ℕ). getD x 9 0) same, figure-at 7 (omega arith), figure-at 8 (omega arith))
 
 -- ---- the count as it is printed

@@ -27,7 +27,7 @@ use Rattle.shapes.proofs.Backward.{text-reverse}
 use Rattle.answers.specs.declared.refusal.Answer.the-variants.{Done}
 use Rattle.answers.specs.declared.refusal.Refusal.{Refusal}
 use Rattle.answers.specs.Outcome.{Outcome, outcomeOf, written}
-use Rattle.answers.proofs.Laws.Outcome.{written-whole}
+use Rattle.answers.proofs.Laws.Outcome.{written-whole, written-same}
 use Rattle.answers.proofs.Laws.Reasons.{none-iff}
 use Rattle.lists.specs.Records.{rowsOf}
 use Rattle.lists.proofs.Theorems.{accepted-iff}
@@ -52,7 +52,7 @@ use Rattle.demands.proofs.Drawn.First.{→found}
 use Rattle.demands.proofs.Drawn.Told.{rows-tell}
 use Rattle.demands.proofs.Shapes.{shape-is}
 use Rattle.demands.proofs.Drawn.Draws.{tree-on}
-use Rattle.demands.proofs.Drawn.LineBytes.{written-same, tree-not-refused, seven-not-eight, count-printed}
+use Rattle.demands.proofs.Drawn.LineBytes.{tree-not-refused, seven-not-eight, count-printed}
 
 -- ---- the line of an accepted list
 

@@ -37,10 +37,9 @@ use Rattle.trees.proofs.Ties.TieRule.{tie-is-marks}
 use Rattle.kept.specs.declared.table.Table.{Table}
 use Rattle.kept.specs.Marks.{isMarkedIn}
 use Rattle.kept.specs.View.{rowAt, resultAt, entryAt, entriesOf, clustersIn}
-use Rattle.table.proofs.Fitting.FitTables.{FitRows}
+use Rattle.table.proofs.Fitting.FitTables.{FitRows, fit-nonzero}
 use Rattle.demands.specs.Worked.{tuplesAt, liveAt, markedSet, joinedSet, sumBests, Chosen, Joined, WorkedRow}
-use Rattle.demands.proofs.Worked.Keys.{Found, nothing, leads, found, dead-sum, dead-many}
-use Rattle.demands.proofs.Worked.Standing.{fit-full}
+use Rattle.trees.proofs.Counting.FirstKey.{Found, nothing, leads, found, dead-sum, dead-many}
 use Rattle.demands.proofs.Worked.Tuples.{memberIn, set-of-marks, Live, live→, key-is, no-common, member-other, same-members}
 
 -- ---- the row length
@@ -118,7 +117,7 @@ module _ (W : Width) (u : Table) (fit : FitRows W (u .degree) (entriesOf u (u .r
       where
         go : Dec (marks σ < marks τ) → Dec (marks τ < marks σ) → (σ ≡ τ) ⊎ T (tieFirst (joinedSet cs τ) (joinedSet cs σ))
         go (yes h) b =
-            inr (subst T (sym (tie-is-marks cs (fit .falls) (fit-full W (u .degree) es fit) (held τ) (held σ)))
+            inr (subst T (sym (tie-is-marks cs (fit .falls) (fit-nonzero W (u .degree) es fit) (held τ) (held σ)))
             (lt→ltb (marks σ) (marks τ) h))
         go (no f) (yes h) = absurd (not-before σ k (level e h))
         go (no f) (no g) =

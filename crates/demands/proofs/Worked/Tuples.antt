@@ -33,10 +33,9 @@ use Rattle.trees.proofs.Sets.Tuples.{tuple→, tuple-mem, scored-part, part-ins
 use Rattle.trees.proofs.Ties.Marks.{marks-lt, marks-none, marks-join, marks-inj}
 use Rattle.kept.specs.Marks.{isMarkedIn}
 use Rattle.kept.proofs.Laws.Fit.{fit→}
-use Rattle.table.proofs.Fitting.FitTables.{FitRows}
+use Rattle.table.proofs.Fitting.FitTables.{FitRows, fit-nonzero}
 use Rattle.table.proofs.Rows.Marked.{marked-mem, every-marked→, marksOf-marked}
 use Rattle.demands.specs.Worked.{markedSet, sumBests}
-use Rattle.demands.proofs.Worked.Standing.{fit-full}
 
 pub set-of-marks : (cs : List ℕ) (S : Fam) → Falling cs → markedSet cs (marksIn cs S) ≡ keep S cs
 set-of-marks cs S f =
@@ -70,7 +69,7 @@ module _ (es : List Beneath) where
 
 module _ (W : Width) (d : ℕ) (es : List Beneath) (k : FitRows W d es) where
   nonzero : (c : ℕ) → Mem c (map cl es) → c ≢ 0
-  nonzero = fit-full W d es k
+  nonzero = fit-nonzero W d es k
 
   part-of : (e : Beneath) → Mem e es → e .val .count ≢ 0 → Part es e
   part-of e m n =

@@ -2,6 +2,7 @@
 --     rescore-accepts-iff                   a rescoring succeeds exactly for a fit table, a cluster with a row and a score
 --     rescore-refuses-iff                   and gives a refusal exactly when it is the first that applies
 --     rescore-refused                       else the table is as it was given
+--     new-count                             a new table has as many rows
 --     new-keeps-others                      in a new table, no row changes that doesn't contain the rescored cluster
 --     rescore-keeps-others                  nor in what any rescoring hands back
 --     rescore-only                          two outcomes that the promise of a rescoring allows are equal
@@ -114,15 +115,15 @@ module _ (W : Width) (t : Table) (c : ℕ) (z : ℤ) (s : ℕ) where
   abbrev changed : List (Entry Result)
   changed = rescored W (t .degree) (clustersIn t) c z s entries
 
-  changed-length : length changed ≡ t .rows
-  changed-length =
+  pub new-count : newTable W t c z s .rows ≡ t .rows
+  new-count =
       sym (length-map changed cl)
       ∙ ap (λ (cs : List ℕ). length cs) (rescored-clusters W (t .degree) (clustersIn t) c z s entries)
       ∙ length-map entries cl
       ∙ down-length (entryAt t) (t .rows)
 
   entries-changed : entriesOf (newTable W t c z s) (t .rows) ≡ changed
-  entries-changed = ap (entriesOf (newTable W t c z s)) (sym changed-length) ∙ entries-table (t .degree) changed
+  entries-changed = ap (entriesOf (newTable W t c z s)) (sym new-count) ∙ entries-table (t .degree) changed
 
   pub new-keeps-others : (i : ℕ) → i < t .rows → inside c (rowAt t i .cluster) ≡ false → entryAt (newTable W t c z s) i ≡ entryAt t i
   new-keeps-others =

@@ -2,6 +2,7 @@
 --     InTable W d es P       es may be the rows of a table with the degree bound d, and P holds of each
 --     carried                so may rows with the same clusters
 --     table-fit              the table of fit rows is fit
+--     fit-nonzero            none of fit rows is empty
 --     again-table-fit        so is that of rows worked out again
 --     putEntry, rescored-fit     a fit table, rescored, is fit
 --     built-fit              a built table is fit
@@ -88,6 +89,11 @@ nonzero-rows : (W : Width) (d : ℕ) (es : List (Entry Result)) → Rows W d es 
 nonzero-rows W d es k c m z =
     let q = Memᴰ·of-map cl es m in
     rules→ W (q .0 .row) (k .each (q .0) (q .1)) .1 .has-taxon (q .2 ∙ z)
+
+pub fit-nonzero : (W : Width) (d : ℕ) (es : List (Entry Result)) → FitRows W d es → (c : ℕ) → Mem c (map cl es) → c ≢ 0
+fit-nonzero W d es k =
+    nonzero-rows W d es
+    (record { bounds = k .bounds; falls = k .falls; each = λ e m. fit-rules W (map cl es) e (k .each e m) })
 
 module _ (W : Width) (facts : WidthFacts W) (d c : ℕ) (es : List (Entry Result)) (k : Rows W d es) where
   abbrev F : Row → List (Entry Result) → Result
