@@ -1,6 +1,6 @@
 -- What is sent back, in the rules' own numbers (RULES 8). Laws: `proofs/Laws/Refusal.antt`.
---     numberOf f       the number of a refusal, 1 to 11
---     positionOf f     the position told with it: only 5 and 6 have one, else 0
+--     numberOf f       the number of a refusal, 1 to 13
+--     positionOf f     the position told with it: 5 and 6 have that of a record, 12 that of a line, the others 0
 --     Sent             what an operation sends back beside its record, table or room
 --     sentOf a         an answer so sent: every promise speaks through it
 -- Assumes nothing.
@@ -9,7 +9,7 @@ use Rattle.answers.specs.declared.refusal.Answer.{Answer}
 use Rattle.answers.specs.declared.refusal.Answer.the-variants.{Done, Refused}
 use Rattle.answers.specs.declared.refusal.Refusal.{Refusal}
 use Rattle.answers.specs.declared.refusal.Refusal.the-variants.{NoBytes, WrongLength, TooLong, DegreeOut, BadRecord, Repeated}
-use Rattle.answers.specs.declared.refusal.Refusal.the-variants.{NoTree, Unfit, NoRow, BadScore, NoRoom}
+use Rattle.answers.specs.declared.refusal.Refusal.the-variants.{NoTree, Unfit, NoRow, BadScore, NoRoom, BadSheet, ManyClusters}
 
 abbrev pub numberOf : Refusal → ℕ
 numberOf NoBytes = 1
@@ -23,6 +23,8 @@ numberOf Unfit = 8
 numberOf NoRow = 9
 numberOf BadScore = 10
 numberOf NoRoom = 11
+numberOf (BadSheet i) = 12
+numberOf ManyClusters = 13
 
 abbrev pub positionOf : Refusal → ℕ
 positionOf NoBytes = 0
@@ -36,6 +38,8 @@ positionOf Unfit = 0
 positionOf NoRow = 0
 positionOf BadScore = 0
 positionOf NoRoom = 0
+positionOf (BadSheet i) = i
+positionOf ManyClusters = 0
 
 pub record Sent : Type 0 where
   -- the refusal's number and position, both 0 on a success

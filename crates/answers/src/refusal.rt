@@ -1,5 +1,5 @@
 // What is sent back: the refusals and the answer of an operation (RULES 8). Cites `specs/Refusal.antt`.
-//     Refusal       the eleven refusals, in the order of their numbers
+//     Refusal       the thirteen refusals, in the order of their numbers
 //     Answer        a success or a refusal
 //     number_of     the rules' number of a refusal
 //     position_of   the position told with it
@@ -30,6 +30,10 @@ pub enum Refusal {
     BadScore,
     // 11: the output room is too short.
     NoRoom,
+    // 12: this line, from 0, is the first at fault in a gel sheet.
+    BadSheet(usize),
+    // 13: the list made of a gel sheet would have too many clusters.
+    ManyClusters,
 }
 
 // How an operation ended.
@@ -40,7 +44,7 @@ pub enum Answer {
     Refused(Refusal),
 }
 
-// The rules' number of a refusal, 1 to 11.
+// The rules' number of a refusal, 1 to 13.
 pub fn number_of(refusal: Refusal) -> u64
     ensures { λ n. ⌜ n ≡ numberOf refusal ⌝ }
 {
@@ -56,6 +60,8 @@ pub fn number_of(refusal: Refusal) -> u64
         Refusal::NoRow => 9,
         Refusal::BadScore => 10,
         Refusal::NoRoom => 11,
+        Refusal::BadSheet(_) => 12,
+        Refusal::ManyClusters => 13,
     }
 }
 
@@ -75,5 +81,7 @@ pub fn position_of(refusal: Refusal) -> usize
         Refusal::NoRow => 0,
         Refusal::BadScore => 0,
         Refusal::NoRoom => 0,
+        Refusal::BadSheet(line) => line,
+        Refusal::ManyClusters => 0,
     }
 }

@@ -2,7 +2,7 @@
 --     answers n p      a success that tells n, then every refusal in the rules' order, with p where it has a position
 --     sent-table       the rules' number, position and what is told for each: an edit of the definitions is refused here
 --     sentOf-inj       equal things sent, equal answers
---     number-pos, number-le     no refusal has the number 0, which says that there is none, and none more than 11
+--     number-pos, number-le     no refusal has the number 0, which says that there is none, and none more than 13
 -- Assumes nothing.
 use mathlib.Core.Path.{_≡_, refl, sym, ap, _∙_}
 use mathlib.Core.List.{List, [], _∷_, map}
@@ -14,12 +14,13 @@ use Rattle.answers.specs.declared.refusal.Answer.{Answer}
 use Rattle.answers.specs.declared.refusal.Answer.the-variants.{Done, Refused}
 use Rattle.answers.specs.declared.refusal.Refusal.{Refusal}
 use Rattle.answers.specs.declared.refusal.Refusal.the-variants.{NoBytes, WrongLength, TooLong, DegreeOut, BadRecord, Repeated}
-use Rattle.answers.specs.declared.refusal.Refusal.the-variants.{NoTree, Unfit, NoRow, BadScore, NoRoom}
+use Rattle.answers.specs.declared.refusal.Refusal.the-variants.{NoTree, Unfit, NoRow, BadScore, NoRoom, BadSheet, ManyClusters}
 use Rattle.answers.specs.Refusal.{numberOf, positionOf, Sent, sentOf}
 
 abbrev refusals : ℕ → List Refusal
 refusals p =
-    NoBytes ∷ WrongLength ∷ TooLong ∷ DegreeOut ∷ BadRecord p ∷ Repeated p ∷ NoTree ∷ Unfit ∷ NoRow ∷ BadScore ∷ NoRoom ∷ []
+    NoBytes ∷ WrongLength ∷ TooLong ∷ DegreeOut ∷ BadRecord p ∷ Repeated p ∷ NoTree ∷ Unfit ∷ NoRow ∷ BadScore ∷ NoRoom
+    ∷ BadSheet p ∷ ManyClusters ∷ []
 
 abbrev pub answers : ℕ → ℕ → List Answer
 answers n p = Done n ∷ map Refused (refusals p)
@@ -40,6 +41,8 @@ pub sent-table : (n p : ℕ) → map sentOf (answers n p)
     ∷ row 9 0 0
     ∷ row 10 0 0
     ∷ row 11 0 0
+    ∷ row 12 p 0
+    ∷ row 13 0 0
     ∷ []
 sent-table n p = refl
 
@@ -61,6 +64,8 @@ answerOf-sent (Refused Unfit) = refl
 answerOf-sent (Refused NoRow) = refl
 answerOf-sent (Refused BadScore) = refl
 answerOf-sent (Refused NoRoom) = refl
+answerOf-sent (Refused (BadSheet i)) = refl
+answerOf-sent (Refused ManyClusters) = refl
 
 pub sentOf-inj : (a b : Answer) → sentOf a ≡ sentOf b → a ≡ b
 sentOf-inj a b e =
@@ -73,11 +78,11 @@ number-pos f e =
     let z : _≡_ {A = ℕ} 0 1 = cc in omega arith
 
 -- past the last number there is no refusal
-pub number-le : (f : Refusal) → numberOf f ≤ 11
+pub number-le : (f : Refusal) → numberOf f ≤ 13
 unfolding answerOf
-number-le f = go (decLe (numberOf f) 11)
+number-le f = go (decLe (numberOf f) 13)
   where
-    go : Dec (numberOf f ≤ 11) → numberOf f ≤ 11
+    go : Dec (numberOf f ≤ 13) → numberOf f ≤ 13
     go (yes h) = h
     go (no h) =
         let past = List·getD-eq-default (answers 0 (positionOf f)) (Done 0) {n = numberOf f} (omega arith) in
