@@ -1,0 +1,181 @@
+-- The lines of a sheet, and where its marks end: `specs/Lines.antt` and the first part of `specs/Form.antt`.
+--     lines-some        bytes are a line at least
+--     marks-low, marks-high     where the marks end lies between their start and the end of the sheet
+--     line-other, line-open, line-told     what a place's marks end with, as the code finds out
+--     LineFrom s at w   a line of w marks starts at a place, and the lines of what follows it are the further ones
+--     line-found        where the test passes
+--     line-ended        where the first line from a place on has marks alone and LF, its marks end at its LF, and the test passes
+-- Assumes nothing.
+use mathlib.Core.Path.{_≡_, refl, sym, ap, ap₂, _∙_, subst}
+use mathlib.Core.Logic.{_≢_}
+use mathlib.Core.Bool.{Bool, true, false, not, cond, true≢false}
+use mathlib.Core.List.{List, [], _∷_, _++_}
+use Prim.Native.Nat.{ℕ, zero, suc, _+_, _-_, _≤_, _<_}
+use borrow.Author.Tests.{eqb-true, eq-eqb, ne-eqb, not-false}
+use native.Mathlib.Decide.{decLe}
+use native.Mathlib.Numerals.{add-one}
+use native.Mathlib.Omega.{arith}
+use lib.Dec.{T, eqb, eqb→eq}
+use lib.ListN.{length, getD, take, drop, length-append, length-drop, List·getD-eq-default, List·getD-append}
+use lib.Seq.{split-at, length-take-le, getD-append-seam, getD-take, getD-drop, drop-drop}
+use Rattle.laws.specs.Lists.{every}
+use Rattle.laws.proofs.First.{first-low, first-high, first-before, first-of}
+use Rattle.laws.proofs.Tests.{T-and, and-T, T-true, true-T}
+use Rattle.gel.specs.Lines.{lineEnd, isMark, Line, noLine, inFront, linesOf, lineCount, lineAt}
+use Rattle.gel.specs.Form.{marksEnd, isLine}
+
+-- ---- a test of bytes, by places
+
+every→at : (p : ℕ → Bool) (l : List ℕ) → T (every p l) → (j : ℕ) → j < length l → T (p (getD l j 0))
+every→at p [] h j k = absurd (omega arith)
+every→at p (b ∷ l) h zero k = T-and (p b) (every p l) h .0
+every→at p (b ∷ l) h (suc j) k = every→at p l (T-and (p b) (every p l) h .1) j (omega arith)
+
+at→every : (p : ℕ → Bool) (l : List ℕ) → ((j : ℕ) → j < length l → T (p (getD l j 0))) → T (every p l)
+at→every p [] f = tt
+at→every p (b ∷ l) f = and-T (p b) (every p l) (f 0 (omega arith)) (at→every p l (λ j k. f (suc j) (omega arith)))
+
+-- ---- the first line
+
+mark-inside : (b : ℕ) → T (isMark b) → eqb b lineEnd ≡ false
+mark-inside b h = ne-eqb b lineEnd (λ e. subst (λ (x : ℕ). T (isMark x)) e h)
+
+-- marks and LF in front are the first line
+lines-ended : (m rest : List ℕ) → T (every isMark m) → linesOf (m ++ lineEnd ∷ rest) ≡ record { bytes = m; ends = true } ∷ linesOf rest
+lines-ended [] rest h = refl
+lines-ended (b ∷ m) rest h =
+    let q = T-and (isMark b) (every isMark m) h in
+    rw (mark-inside b (q .0), lines-ended m rest (q .1))
+
+-- a byte in front of lines, where t tells whether it is LF
+abbrev before : Bool → ℕ → List Line → List Line
+before t b ls = cond t (record { bytes = []; ends = true } ∷ ls) (inFront b ls)
+
+pub lines-some : (s : List ℕ) → 1 ≤ length s → 1 ≤ lineCount s
+lines-some [] h = absurd (omega arith)
+lines-some (b ∷ s) h = go (eqb b lineEnd) (linesOf s)
+  where
+    go : (t : Bool) (ls : List Line) → 1 ≤ length (before t b ls)
+    go true ls = omega arith
+    go false [] = omega arith
+    go false (x ∷ ls) = omega arith
+
+abbrev first : List Line → Line
+first ls = getD ls 0 noLine
+
+-- a first line that has an end, and what stands behind
+line-apart : (r : List ℕ) → lineAt r 0 .ends ≡ true → (rest : List ℕ) × (r ≡ lineAt r 0 .bytes ++ lineEnd ∷ rest)
+line-apart [] h = absurd (true≢false (sym h))
+line-apart (b ∷ r) h = go (eqb b lineEnd) refl (linesOf r) (line-apart r) h
+  where
+    go : (t : Bool) → eqb b lineEnd ≡ t → (ls : List Line)
+        → (first ls .ends ≡ true → (rest : List ℕ) × (r ≡ first ls .bytes ++ lineEnd ∷ rest))
+        → first (before t b ls) .ends ≡ true → (rest : List ℕ) × (b ∷ r ≡ first (before t b ls) .bytes ++ lineEnd ∷ rest)
+    go true e ls ih k = (r, ap (λ (x : ℕ). x ∷ r) (eqb-true b lineEnd e))
+    go false e [] ih k = absurd (true≢false (sym k))
+    go false e (x ∷ ls) ih k = let q = ih k in (q .0, ap (λ (l : List ℕ). b ∷ l) (q .1))
+
+module _ (s : List ℕ) (at : ℕ) where
+  -- ---- where marks end
+  pub marks-low : at ≤ marksEnd s at
+  marks-low = first-low (λ i. not (isMark (getD s i 0))) at (length s - at)
+
+  pub marks-high : at ≤ length s → marksEnd s at ≤ length s
+  marks-high h = omega (arith, first-high (λ i. not (isMark (getD s i 0))) at (length s - at))
+
+  marks-mark : (j : ℕ) → at ≤ j → j < marksEnd s at → T (isMark (getD s j 0))
+  marks-mark j h k = true-T (not-false (isMark (getD s j 0)) (first-before (λ i. not (isMark (getD s i 0))) at (length s - at) j h k))
+
+  -- ---- the test of a line, as the code comes to it
+  pub line-other : (w : ℕ) → marksEnd s at - at ≢ w → isLine s at w ≡ false
+  line-other w h = rw (ne-eqb (marksEnd s at - at) w h)
+
+  -- the end of the sheet isn't LF
+  open-end : length s ≤ marksEnd s at → eqb (getD s (marksEnd s at) 0) lineEnd ≡ false
+  open-end h = ap (λ (b : ℕ). eqb b lineEnd) (List·getD-eq-default s 0 h)
+
+  pub line-open : (w : ℕ) → marksEnd s at - at ≡ w → marksEnd s at ≡ length s → isLine s at w ≡ false
+  line-open w e h = rw (eq-eqb (marksEnd s at - at) w e, open-end (omega arith))
+
+  pub line-told : (w : ℕ) → marksEnd s at - at ≡ w → isLine s at w ≡ eqb (getD s (marksEnd s at) 0) lineEnd
+  line-told w e = rw (eq-eqb (marksEnd s at - at) w e)
+
+  -- ---- a line
+  pub record LineFrom (w : ℕ) : Type 0 where
+    pub within : at + (w + 1) ≤ length s
+    pub marks : T (every isMark (take w (drop at s)))
+    pub lines : linesOf (drop at s) ≡ record { bytes = take w (drop at s); ends = true } ∷ linesOf (drop (at + (w + 1)) s)
+
+  -- where the test passes
+  module _ (w : ℕ) (h : isLine s at w ≡ true) where
+    tests : T (eqb (marksEnd s at - at) w) × T (eqb (getD s (marksEnd s at) 0) lineEnd)
+    tests = T-and (eqb (marksEnd s at - at) w) (eqb (getD s (marksEnd s at) 0) lineEnd) (true-T h)
+
+    end-is : marksEnd s at ≡ at + w
+    end-is = omega (arith, marks-low, eqb→eq (marksEnd s at - at) w (tests .0))
+
+    in-sheet : at + (w + 1) ≤ length s
+    in-sheet = go (decLe (length s) (marksEnd s at))
+      where
+        go : Dec (length s ≤ marksEnd s at) → at + (w + 1) ≤ length s
+        go (yes k) = absurd (subst T (open-end k) (tests .1))
+        go (no k) = omega (arith, end-is)
+
+    all-marks : T (every isMark (take w (drop at s)))
+    all-marks = at→every isMark (take w (drop at s)) mark
+      where
+        long : length (take w (drop at s)) ≡ w
+        long = length-take-le w (drop at s) (omega (arith, length-drop at s, in-sheet))
+
+        mark : (j : ℕ) → j < length (take w (drop at s)) → T (isMark (getD (take w (drop at s)) j 0))
+        mark j k =
+            let e = getD-take w (drop at s) j 0 (omega (arith, long)) ∙ getD-drop at s j 0 in
+            subst (λ (b : ℕ). T (isMark b)) (sym e) (marks-mark (at + j) (omega arith) (omega (arith, long, end-is)))
+
+    last : getD (drop at s) w 0 ≡ lineEnd
+    last = getD-drop at s w 0 ∙ ap (λ (i : ℕ). getD s i 0) (sym end-is) ∙ eqb→eq (getD s (marksEnd s at) 0) lineEnd (tests .1)
+
+    parts : drop at s ≡ take w (drop at s) ++ lineEnd ∷ drop (at + (w + 1)) s
+    parts =
+        let after = ap (λ (n : ℕ). drop n (drop at s)) (sym (add-one w)) ∙ drop-drop (w + 1) at s in
+        split-at (drop at s) w 0 (omega (arith, length-drop at s, in-sheet))
+        ∙ ap₂ (λ (b : ℕ) (r : List ℕ). take w (drop at s) ++ b ∷ r) last after
+
+    pub line-found : LineFrom w
+    line-found = record {
+      within = in-sheet;
+      marks = all-marks;
+      lines = ap linesOf parts ∙ lines-ended (take w (drop at s)) (drop (at + (w + 1)) s) all-marks;
+    }
+
+  -- where the first line has marks alone, and LF
+  module _ (m rest : List ℕ) (split : drop at s ≡ m ++ lineEnd ∷ rest) (marks : T (every isMark m)) where
+    byte : (j : ℕ) → getD s (at + j) 0 ≡ getD (m ++ lineEnd ∷ rest) j 0
+    byte j = sym (getD-drop at s j 0) ∙ ap (λ (l : List ℕ). getD l j 0) split
+
+    end-byte : getD s (at + length m) 0 ≡ lineEnd
+    end-byte = byte (length m) ∙ getD-append-seam m lineEnd rest 0
+
+    inner : (i : ℕ) → at ≤ i → i < at + length m → not (isMark (getD s i 0)) ≡ false
+    inner i h k =
+        let back : i ≡ at + (i - at) = omega arith in
+        let same = ap (λ (n : ℕ). getD s n 0) back ∙ byte (i - at) ∙ List·getD-append m (lineEnd ∷ rest) 0 (i - at) (omega arith) in
+        ap not (ap isMark same ∙ T-true _ (every→at isMark m marks (i - at) (omega arith)))
+
+    marks-stop : marksEnd s at ≡ at + length m
+    marks-stop =
+        let inside : at + length m < length s = omega (arith, length-drop at s, ap length split, length-append m (lineEnd ∷ rest)) in
+        first-of (λ i. not (isMark (getD s i 0))) at (length s - at) (at + length m) (omega arith) (omega arith)
+        (ap (λ (b : ℕ). not (isMark b)) end-byte) inner
+
+    line-stop : isLine s at (length m) ≡ true
+    line-stop =
+        line-told (length m) (omega (arith, marks-stop))
+        ∙ ap (λ (b : ℕ). eqb b lineEnd) (ap (λ (i : ℕ). getD s i 0) marks-stop ∙ end-byte)
+
+  pub line-ended : lineAt (drop at s) 0 .ends ≡ true → T (every isMark (lineAt (drop at s) 0 .bytes))
+      → let w = length (lineAt (drop at s) 0 .bytes) in (marksEnd s at ≡ at + w) × (isLine s at w ≡ true)
+  line-ended e h =
+      let q = line-apart (drop at s) e in
+      let m = lineAt (drop at s) 0 .bytes in
+      (marks-stop m (q .0) (q .1) h, line-stop m (q .0) (q .1) h)

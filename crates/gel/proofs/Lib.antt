@@ -1,0 +1,2 @@
+-- What the crates above cite.
+pub mod Laws
