@@ -64,6 +64,7 @@ one-outcome = record {
   «drawn_text» = drawn-text-only narrow;
   text = λ t room. room-only _;
   line = λ l d room. room-only _;
+  «sheet_line» = λ a m. value-only;
   «ladlepine_build» = λ l d. value-only;
   «ladlepine_rescore» = λ l d c z s times. value-only;
 }

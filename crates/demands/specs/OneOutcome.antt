@@ -46,6 +46,7 @@ use Rattle.texts.specs.Text.{holding, withBytes}
 use Rattle.drawing.specs.declared.drawing.DrawnText.{DrawnText}
 use Rattle.drawing.specs.Draw.{drawTree, drawnText, drawnTextOf, drawText}
 use Rattle.report.specs.Line.{lineInto}
+use Rattle.report.specs.Sheet.{sheetLine}
 use Rattle.digests.specs.Digest.{digest, rescoredTimes}
 
 module _ {A : Type 0} where
@@ -108,6 +109,7 @@ pub record OneOutcome : Type 0 where
   pub text : (t : Table) (room : List ℕ) → Only (In (drawText narrow t room))
   -- report
   pub line : (list : List ℕ) (degree : ℕ) (room : List ℕ) → Only (In (lineInto list degree room))
+  pub «sheet_line» : (answer : Answer) (unread : ℕ) → Only (λ (r : Text). r ≡ withBytes (holding []) (sheetLine (sentOf answer) unread))
   -- digests
   pub «ladlepine_build» : (list : List ℕ) (degree : ℕ) → Only (λ (r : ℕ). r ≡ digest (buildTable narrow list degree .given))
   pub «ladlepine_rescore» : (list : List ℕ) (degree cluster : ℕ) (weight : ℤ) (state times : ℕ)

@@ -3,3 +3,5 @@
 pub mod Words
 -- the line of a table and of a list
 pub mod Line
+-- what is said of a gel sheet
+pub mod Sheet

@@ -1,3 +1,4 @@
--- The words of a line, and the line of a list and a degree bound.
+-- The words of a line, the line of a list and a degree bound, and what is said of a gel sheet.
 pub mod Words
 pub mod Line
+pub mod Sheet

@@ -21,7 +21,7 @@ use Rattle.trees.proofs.Counting.Capped.{past}
 use Rattle.shapes.specs.Characters.{characters}
 use Rattle.shapes.specs.Decimal.{figure, decimal}
 use Rattle.shapes.proofs.Decimal.{isFigure, decimal-figures, decimal-some, decimal-one}
-use Rattle.report.specs.Words.{signed, countWord, placeWord, refusedLine, treeLine}
+use Rattle.report.specs.Words.{signed, countWord, placeWord, refusedWords, refusedLine, treeLine}
 use Rattle.report.proofs.Laws.Words.{countWord-one, countWord-many}
 use Rattle.demands.specs.Sending.{sentBack}
 use Rattle.demands.specs.Trees.{TellsTrees, printedCount}
@@ -50,13 +50,13 @@ abbrev treeRest : ℕ → ℕ → ℤ → List ℕ → List ℕ
 treeRest c m best text = characters " " ++ (countWord c m ++ weightOn best text)
 
 abbrev refusedRest : ℕ → ℕ → List ℕ
-refusedRest n p = characters " refused " ++ (decimal n ++ (placeWord n p ++ characters "\n"))
+refusedRest n p = characters " " ++ refusedWords (sentBack n p)
 
 tree-split : (d c m : ℕ) (best : ℤ) (text : List ℕ) → treeLine d c m best text ≡ decimal d ++ treeRest c m best text
 tree-split d c m best text = simp append-assoc
 
 refused-split : (d n p : ℕ) → refusedLine d (sentBack n p) ≡ decimal d ++ refusedRest n p
-refused-split d n p = simp append-assoc
+refused-split d n p = append-assoc (decimal d) (characters " ") (refusedWords (sentBack n p))
 
 pub tree-not-refused : (d c m : ℕ) (best : ℤ) (text : List ℕ) (n p : ℕ) → treeLine d c m best text ≢ refusedLine d (sentBack n p)
 tree-not-refused d c m best text n p e =
@@ -66,7 +66,7 @@ tree-not-refused d c m best text n p e =
 
 -- the figure of a refusal's number
 figure-at : (n : ℕ) → n < 10 → getD (refusedRest n 0) 9 0 ≡ figure n
-figure-at n h = ap (λ (x : List ℕ). getD (characters " refused " ++ (x ++ (placeWord n 0 ++ characters "\n"))) 9 0) (decimal-one n h)
+figure-at n h = ap (λ (x : List ℕ). getD (characters " refused " ++ x ++ placeWord n 0 ++ characters "\n") 9 0) (decimal-one n h)
 
 pub seven-not-eight : (d : ℕ) → refusedLine d (sentBack 7 0) ≢ refusedLine d (sentBack 8 0)
 seven-not-eight d e =

@@ -1,12 +1,14 @@
 -- The words of a line by their cases, and how long a line can be.
+--     begun                              bytes added to a text that is another are added to that
 --     signed-neg, signed-pos             a weight, by its sign
 --     countWord-many, countWord-one      a count, by its mark
---     placeWord-bad, placeWord-repeated, placeWord-none     a place, by the refusal's number
+--     placeWord-bad, placeWord-repeated, placeWord-sheet, placeWord-none     a place, by the refusal's number
 --     bestMax                            no tree weighs more, either way
 --     treeLine-length-le                 the line of a tree has 24 bytes more than its text at most
---     refusedLine-length-le              the line of a refusal has 54
+--     refusedWords-length-le             the words of a refusal have 43
+--     refusedLine-length-le              and its line 54
 -- Assumes nothing.
-use mathlib.Core.Path.{_≡_}
+use mathlib.Core.Path.{_≡_, ap, _∙_}
 use mathlib.Core.Bool.{Bool, true, false, cond}
 use mathlib.Core.List.{List, [], _++_}
 use Prim.Native.Nat.{ℕ, _+_, _-_, _*_, _^_, _≤_, _<_}
@@ -24,7 +26,14 @@ use Rattle.answers.proofs.Laws.Refusal.{number-le}
 use Rattle.shapes.specs.Characters.{characters}
 use Rattle.shapes.specs.Decimal.{decimal}
 use Rattle.shapes.proofs.Decimal.{decimal-length-le}
-use Rattle.report.specs.Words.{signed, countWord, hasPosition, placeWord, refusedLine, treeLine}
+use Rattle.texts.specs.declared.text.Text.{Text}
+use Rattle.texts.specs.Text.{withBytes}
+use Rattle.report.specs.Words.{signed, countWord, hasPosition, placeWord, refusedWords, refusedLine, treeLine}
+
+-- ---- the start of a line
+
+pub begun : (l : List ℕ) {t r s : Text} → r ≡ t → s ≡ withBytes r l → s ≡ withBytes t l
+begun l p q = q ∙ ap (λ (x : Text). withBytes x l) p
 
 -- ---- the cases
 
@@ -46,8 +55,11 @@ placeWord-bad n p e = rw e
 pub placeWord-repeated : (n p : ℕ) → n ≡ 6 → placeWord n p ≡ characters " at " ++ decimal p
 placeWord-repeated n p e = rw e
 
-pub placeWord-none : (n p : ℕ) → (n ≡ 5 → ⊥) → (n ≡ 6 → ⊥) → placeWord n p ≡ []
-placeWord-none n p h k = rw (ne-eqb n 5 h, ne-eqb n 6 k)
+pub placeWord-sheet : (n p : ℕ) → n ≡ 12 → placeWord n p ≡ characters " at " ++ decimal p
+placeWord-sheet n p e = rw e
+
+pub placeWord-none : (n p : ℕ) → (n ≡ 5 → ⊥) → (n ≡ 6 → ⊥) → (n ≡ 12 → ⊥) → placeWord n p ≡ []
+placeWord-none n p h k m = rw (ne-eqb n 5 h, ne-eqb n 6 k, ne-eqb n 12 m)
 
 -- ---- lengths
 
@@ -84,10 +96,16 @@ placeWord-length-le n p h = go (hasPosition n)
     go true = omega (arith, decimal-length-le 19 p (omega arith))
     go false = omega arith
 
+pub refusedWords-length-le : (f : Refusal) → positionOf f < 2 ^ 64 → length (refusedWords (sentOf (Refused f))) ≤ 43
+refusedWords-length-le f k =
+    let number = number-le f in
+    let first = decimal-length-le 9 (numberOf f) (omega arith) in
+    let second = placeWord-length-le (numberOf f) (positionOf f) k in
+    simp length-append (omega arith)
+
 pub refusedLine-length-le : (d : ℕ) (f : Refusal) → d < 2 ^ 32 → positionOf f < 2 ^ 64 → length (refusedLine d (sentOf (Refused f))) ≤ 54
 refusedLine-length-le d f h k =
     let first = decimal-length-le 9 d (omega arith) in
-    let number = number-le f in
-    let second = decimal-length-le 9 (numberOf f) (omega arith) in
-    let third = placeWord-length-le (numberOf f) (positionOf f) k in
-    simp length-append (omega arith)
+    let rest = refusedWords-length-le f k in
+    let split = length-append (decimal d ++ characters " ") (refusedWords (sentOf (Refused f))) in
+    omega (arith, split, length-append (decimal d) (characters " "))

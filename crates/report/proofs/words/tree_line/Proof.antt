@@ -1,13 +1,11 @@
 -- `report::words::tree_line` meets its contract: the words of the line with the spaces between, one after the other. Assumes nothing.
-use mathlib.Core.Path.{ap, _∙_}
 use borrow.Author.Needs.{needs}
 use mir.Facts.{toZ-ofZ}
 use mir.Syntax.{w64}
 use mir.Val.{SFits}
 use Rattle.shapes.specs.Decimal.{decimal}
-use Rattle.texts.specs.declared.text.Text.{Text}
-use Rattle.texts.specs.Text.{withBytes}
 use Rattle.texts.proofs.Laws.{with-then}
+use Rattle.report.proofs.Laws.Words.{begun}
 use Rattle.report.proofs.words.tree_line.Statement.{statement}
 use Rattle.report.proofs.words.tree_line.Tie as tie
 
@@ -25,8 +23,7 @@ returns c =
     let first = count .before in
     let degree = first .before .before in
     let s = degree .before .before .before in
-    let start =
-    degree .add-decimal .ensures ∙ ap (λ (t : Text). withBytes t (decimal (s .args .degree))) (degree .before .empty .ensures) in
+    let start = begun (decimal (s .args .degree)) (degree .before .empty .ensures) (degree .add-decimal .ensures) in
     let counted = with-then _ _ _ (with-then _ _ _ start (first .add .ensures)) (count .add-count .ensures) in
     let best = rw (toZ-ofZ (fits s)) at (weight .add-weight .ensures) in
     let weighed = with-then _ _ _ (with-then _ _ _ counted (second .add2 .ensures)) best in
