@@ -1,5 +1,6 @@
 -- ONE OUTCOME (RULES 12): of each public operation, two outcomes that its promise allows are equal.
 --     room-only        an answer with the room afterwards, whatever the operation
+--     import-only      an import with the room afterwards
 --     one-outcome      the table of `specs/OneOutcome.antt`, crate by crate
 -- Assumes nothing.
 use mathlib.Core.Path.{ap₂}
@@ -16,13 +17,20 @@ use Rattle.members.proofs.Drawn.{drawn-only}
 use Rattle.table.proofs.Theorems.{build-only}
 use Rattle.table.proofs.Changing.RescoredTables.{rescore-only}
 use Rattle.drawing.proofs.Laws.Draw.{drawn-text-only}
-use Rattle.demands.specs.OneOutcome.{Only, In, OneOutcome}
+use Rattle.gel.specs.declared.importing.Import.{Import}
+use Rattle.gel.specs.Import.{Imported, importOf}
+use Rattle.demands.specs.OneOutcome.{Only, In, Imports, OneOutcome}
 
 -- an answer with the room afterwards, whatever the operation
 room-only : (o : Outcome (List ℕ)) → Only (In o)
 room-only o x y p q =
     let e = outcome-only (x .0) (y .0) (x .1) (y .1) p q in
     ap₂ (λ (a : Answer) (l : List ℕ). (a, l)) (e .0) (e .1)
+
+import-only : (o : Outcome Imported) → Only (Imports o)
+import-only o x y p q =
+    let e = outcome-only (x .0 .answer) (y .0 .answer) (importOf (x .0) (x .1) .given) (importOf (y .0) (y .1) .given) p q in
+    ap₂ (λ (a : Answer) (i : Imported). (record { answer = a; unread = i .unread }, i .room)) (e .0) (e .1)
 
 pub one-outcome : OneOutcome
 one-outcome = record {
@@ -47,6 +55,7 @@ one-outcome = record {
   «write_record» = λ r room. room-only _;
   «read_list» = list-only narrow;
   «check_list» = check-only narrow;
+  «import_sheet» = λ s room. import-only _;
   «zero_table» = value-only;
   «is_fit» = λ t. value-only;
   «place_of» = λ t c. value-only;

@@ -3,6 +3,7 @@
 -- holds each row against the source (`.ci/promises`).
 --     Only P          two values of which P holds are equal
 --     In o a          an answer with what it was given is the outcome o
+--     Imports o a     so for an import
 --     OneOutcome      the table, crate by crate
 -- Assumes nothing.
 use mathlib.Core.Path.{_≡_}
@@ -30,6 +31,8 @@ use Rattle.cluster.specs.Reading.{readingOf, readRecord}
 use Rattle.cluster.specs.Writing.{writeRecord}
 use Rattle.lists.specs.declared.listing.Listing.{Listing}
 use Rattle.lists.specs.Listing.{listingOf, readList}
+use Rattle.gel.specs.declared.importing.Import.{Import}
+use Rattle.gel.specs.Import.{Imported, importOf, importSheet}
 use Rattle.kept.specs.declared.table.Table.{Table}
 use Rattle.kept.specs.View.{zeroTable}
 use Rattle.kept.specs.Fit.{isFit}
@@ -56,6 +59,10 @@ module _ {A : Type 0} where
 -- an answer, with the room afterwards
 abbrev pub In : Outcome (List ℕ) → Answer × List ℕ → Type 0
 In o a = outcomeOf (a .0) (a .1) ≡ o
+
+-- an import, with the room afterwards
+abbrev pub Imports : Outcome Imported → Import × List ℕ → Type 0
+Imports o a = importOf (a .0) (a .1) ≡ o
 
 pub record OneOutcome : Type 0 where
   -- taxa
@@ -85,6 +92,8 @@ pub record OneOutcome : Type 0 where
   -- lists
   pub «read_list» : (list : List ℕ) → Only (λ (r : Listing). listingOf r ≡ readList narrow list)
   pub «check_list» : (list : List ℕ) → Only (λ (a : Answer). sentOf a ≡ readList narrow list .sent)
+  -- gel
+  pub «import_sheet» : (sheet room : List ℕ) → Only (Imports (importSheet sheet room))
   -- kept
   pub «zero_table» : Only (λ (t : Table). t ≡ zeroTable)
   pub «is_fit» : (t : Table) → Only (λ (b : Bool). b ≡ isFit narrow t)
