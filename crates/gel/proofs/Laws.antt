@@ -5,12 +5,14 @@ pub mod Faults
 pub mod Formed
 -- one column
 pub mod Columns
+pub mod Ones
 -- keys: in an array, counted, gathered, added, and those of a sheet
 pub mod Keys
 pub mod Gathered
 pub mod Counted
 pub mod Adding
 pub mod Tallied
+pub mod Numbered
 -- the list that is made, and how it is written
 pub mod Writing
 pub mod Made

@@ -3,6 +3,8 @@
 pub mod Lines
 -- its columns, and the clusters of the list
 pub mod Columns
+-- the same in words
+pub mod Facts
 -- the import: its reasons and its outcome
 pub mod Import
 -- what private functions cite

@@ -1,15 +1,12 @@
 -- The faults of lines, and the form of a sheet with a line at fault: `specs/Lines.antt` and `specs/Form.antt`.
---     Sound s i         what a line that isn't at fault has
---     fault→sound, sound→fault     out of the test and into it
---     fault-iff         the same in words: marks alone, as many as line 0, one to 128 of them, LF, and no line too many
---     sound-line        where the marks of a line that isn't at fault end, and that it passes the test of a line
+--     fault→right, right→fault     a line that isn't at fault, in words, out of the test and into it
+--     right-line        where the marks of a line that isn't at fault end, and that it passes the test of a line
 --     form-bad          the form of a sheet that has a line at fault, and none before it
 --     form-unmarked     the form of a sheet that starts with no mark or too many
 -- Assumes nothing.
 use mathlib.Core.Path.{_≡_, refl, sym, ap, _∙_, subst}
-use mathlib.Core.Logic.{_↔_}
 use mathlib.Core.Bool.{Bool, true, false, not, _&&_, _||_, true≢false, not-eq-not}
-use mathlib.Core.List.{List, [], _∷_, List·Memᴰ as Mem}
+use mathlib.Core.List.{List, [], _∷_}
 use Prim.Native.Nat.{ℕ, _+_, _≤_, _<_}
 use borrow.Author.Tests.{not-false, eqb-true, leb-false, eq-eqb, le-leb, lt-leb}
 use native.Mathlib.Decide.{decLe}
@@ -21,6 +18,7 @@ use Rattle.laws.proofs.First.{first-of}
 use Rattle.laws.proofs.Keep.{every→, →every}
 use Rattle.laws.proofs.Tests.{T-and, T-true, true-T, or-r}
 use Rattle.gel.specs.Lines.{isMark, lineMax, widthMax, Line, lineCount, lineAt, widthOf, isFault, firstFault, isBadSheet}
+use Rattle.gel.specs.Facts.{RightLine}
 use Rattle.gel.specs.Form.{marksEnd, isLine, FormIs}
 use Rattle.gel.proofs.Laws.Lines.{lines-some, line-ended}
 
@@ -40,23 +38,15 @@ form-empty (b ∷ s) w e = absurd (omega (arith, e))
 
 module _ (s : List ℕ) where
   -- ---- faults
-  pub record Sound (i : ℕ) : Type 0 where
-    pub marks : T (every isMark (lineAt s i .bytes))
-    pub long : length (lineAt s i .bytes) ≡ widthOf s
-    pub some : 1 ≤ length (lineAt s i .bytes)
-    pub most : length (lineAt s i .bytes) ≤ widthMax
-    pub ends : lineAt s i .ends ≡ true
-    pub low : i < lineMax
-
-  pub fault→sound : (i : ℕ) → isFault s i ≡ false → Sound i
-  fault→sound i h =
+  pub fault→right : (i : ℕ) → isFault s i ≡ false → RightLine s i
+  fault→right i h =
       let x = lineAt s i in
       let n = length (x .bytes) in
       let inside = leb 1 n && leb n widthMax in
       let q = none-of (not (every isMark (x .bytes))) (not (eqb n (widthOf s))) (not inside) (not (x .ends)) (leb lineMax i) h in
       let wide = T-and (leb 1 n) (leb n widthMax) (true-T (not-false inside (q .2))) in
       record {
-        marks = true-T (not-false (every isMark (x .bytes)) (q .0));
+        marks = every→ isMark (x .bytes) (true-T (not-false (every isMark (x .bytes)) (q .0)));
         long = eqb-true n (widthOf s) (not-false (eqb n (widthOf s)) (q .1));
         some = leb→le 1 n (wide .0);
         most = leb→le n widthMax (wide .1);
@@ -64,11 +54,11 @@ module _ (s : List ℕ) where
         low = leb-false lineMax i (q .4);
       }
 
-  pub sound→fault : (i : ℕ) → Sound i → isFault s i ≡ false
-  sound→fault i k =
+  pub right→fault : (i : ℕ) → RightLine s i → isFault s i ≡ false
+  right→fault i k =
       let n = length (lineAt s i .bytes) in
       rw (
-        T-true (every isMark (lineAt s i .bytes)) (k .marks),
+        T-true (every isMark (lineAt s i .bytes)) (→every isMark (lineAt s i .bytes) (k .marks)),
         eq-eqb n (widthOf s) (k .long),
         le-leb 1 n (k .some),
         le-leb n widthMax (k .most),
@@ -76,32 +66,15 @@ module _ (s : List ℕ) where
         lt-leb lineMax i (k .low),
       )
 
-  pub fault-iff : (i : ℕ)
-      → let x = lineAt s i in
-      (isFault s i ≡ false)
-      ↔ (((b : ℕ) → Mem b (x .bytes) → T (isMark b)) × (length (x .bytes) ≡ widthOf s) × (1 ≤ length (x .bytes))
-      × (length (x .bytes) ≤ widthMax) × (x .ends ≡ true) × (i < lineMax))
-  fault-iff i = (
-    λ h. let k = fault→sound i h in (every→ isMark (lineAt s i .bytes) (k .marks), k .long, k .some, k .most, k .ends, k .low),
-    λ q. sound→fault i (record {
-      marks = →every isMark (lineAt s i .bytes) (q .0);
-      long = q .1;
-      some = q .2;
-      most = q .3;
-      ends = q .4;
-      low = q .5;
-    }),
-  )
-
   -- the line from a place on, where it isn't at fault
-  pub sound-line : (at i : ℕ) → lineAt s i ≡ lineAt (drop at s) 0 → isFault s i ≡ false
+  pub right-line : (at i : ℕ) → lineAt s i ≡ lineAt (drop at s) 0 → isFault s i ≡ false
       → (marksEnd s at ≡ at + widthOf s) × (isLine s at (widthOf s) ≡ true)
-  sound-line at i e h =
-      let k = fault→sound i h in
+  right-line at i e h =
+      let k = fault→right i h in
       let long = ap (λ (x : Line). length (x .bytes)) (sym e) ∙ k .long in
       let ends = ap (λ (x : Line). x .ends) (sym e) ∙ k .ends in
       subst (λ (w : ℕ). (marksEnd s at ≡ at + w) × (isLine s at w ≡ true)) long
-      (line-ended s at ends (subst (λ (x : Line). T (every isMark (x .bytes))) e (k .marks)))
+      (line-ended s at ends (subst (λ (x : Line). T (every isMark (x .bytes))) e (→every isMark (lineAt s i .bytes) (k .marks))))
 
   -- ---- a bad sheet
   pub form-bad : (n w : ℕ) → n < lineCount s → (isFault s n ≡ false → ⊥) → ((i : ℕ) → i < n → isFault s i ≡ false)
@@ -114,10 +87,10 @@ module _ (s : List ℕ) where
       record { whole = ap not (sym bad); fault = λ _. sym first; formed = λ k. absurd k }
 
   -- a line 0 that isn't at fault has marks, and not too many
-  marks-sound : isFault s 0 ≡ false → (1 ≤ marksEnd s 0) × (marksEnd s 0 ≤ widthMax)
-  marks-sound h =
-      let k = fault→sound 0 h in
-      let e = sound-line 0 0 refl h .0 in
+  marks-right : isFault s 0 ≡ false → (1 ≤ marksEnd s 0) × (marksEnd s 0 ≤ widthMax)
+  marks-right h =
+      let k = fault→right 0 h in
+      let e = right-line 0 0 refl h .0 in
       (omega (arith, e, k .some, k .long), omega (arith, e, k .most, k .long))
 
   pub form-unmarked : (w : ℕ) → (1 ≤ marksEnd s 0 → marksEnd s 0 ≤ widthMax → ⊥)
@@ -125,5 +98,5 @@ module _ (s : List ℕ) where
   form-unmarked w f = go (decLe 1 (length s))
     where
       go : Dec (1 ≤ length s) → FormIs s (record { lines = 0; width = w; «is_whole» = false })
-      go (yes h) = form-bad 0 w (lines-some s h) (λ e. let q = marks-sound e in f (q .0) (q .1)) (λ i k. absurd (omega arith))
+      go (yes h) = form-bad 0 w (lines-some s h) (λ e. let q = marks-right e in f (q .0) (q .1)) (λ i k. absurd (omega arith))
       go (no h) = form-empty s w (omega arith)

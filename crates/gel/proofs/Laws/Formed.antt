@@ -17,11 +17,12 @@ use lib.Dec.{T}
 use lib.ListN.{length, getD, take, drop, length-drop, drop-of-length-le}
 use lib.Seq.{length-take-le, getD-take, getD-drop}
 use Rattle.laws.specs.Lists.{every}
+use Rattle.laws.proofs.Keep.{every→}
 use Rattle.laws.proofs.First.{first-all}
 use Rattle.gel.specs.Lines.{isMark, lineMax, Line, noLine, lineCount, lineAt, widthOf, isFault, firstFault, isBadSheet}
 use Rattle.gel.specs.Columns.{markAt}
 use Rattle.gel.specs.Form.{marksEnd, isLine, FirstWidth, Formed, FormIs}
-use Rattle.gel.proofs.Laws.Faults.{fault→sound, sound→fault, sound-line, form-bad}
+use Rattle.gel.proofs.Laws.Faults.{fault→right, right→fault, right-line, form-bad}
 use Rattle.gel.proofs.Laws.Lines.{LineFrom, lines-some, marks-high, line-found}
 
 module _ (s : List ℕ) where
@@ -104,8 +105,8 @@ module _ (s : List ℕ) where
           let x = l .whole i h in
           let long = long-is i h in
           let first = long-is 0 (omega arith) in
-          sound→fault s i (record {
-            marks = subst (λ (y : Line). T (every isMark (y .bytes))) (sym (x .line)) (x .marks);
+          right→fault s i (record {
+            marks = every→ isMark (lineAt s i .bytes) (subst (λ (y : Line). T (every isMark (y .bytes))) (sym (x .line)) (x .marks));
             long = omega (arith, long, first);
             some = omega (arith, long, head .some);
             most = omega (arith, long, head .most);
@@ -115,14 +116,14 @@ module _ (s : List ℕ) where
 
       -- ---- where the loop ends
       pub lined-full : at < length s → n ≡ lineMax → FormIs s (record { lines = n; width = w; «is_whole» = false })
-      lined-full h e = form-bad s n w (next-counts h) (λ k. omega (arith, fault→sound s n k .low, e)) clear
+      lined-full h e = form-bad s n w (next-counts h) (λ k. omega (arith, fault→right s n k .low, e)) clear
 
       -- a line that isn't at fault passes the test
       next-line : isFault s n ≡ false → isLine s at w ≡ true
       next-line h = subst (λ (v : ℕ). isLine s at v ≡ true) (same (decLe 1 n)) (q .1)
         where
           q : (marksEnd s at ≡ at + widthOf s) × (isLine s at (widthOf s) ≡ true)
-          q = sound-line s at n next-is h
+          q = right-line s at n next-is h
 
           same : Dec (1 ≤ n) → widthOf s ≡ w
           same (yes k) = long-is 0 k
