@@ -29,6 +29,8 @@ use Rattle.lists.specs.Records.{rowsOf}
 use Rattle.lists.specs.Listing.{listed, listReasons, readList}
 use Rattle.lists.specs.Accepted.{Accepted}
 use Rattle.lists.proofs.Theorems.{accepted-iff}
+use Rattle.gel.specs.Columns.{sheetRows}
+use Rattle.gel.specs.Import.{imported, notImported, importReasons, importSheet}
 use Rattle.kept.specs.declared.table.Table.{Table}
 use Rattle.kept.specs.View.{rowAt, clustersDown, tableOf, zeroTable}
 use Rattle.kept.specs.Facts.{FitTable}
@@ -50,14 +52,15 @@ use Rattle.report.specs.Words.{refusedLine}
 use Rattle.report.specs.Line.{lineCap, lineFor, tableLine, lineOf, lineInto}
 use Rattle.report.proofs.Laws.Line.{line-length-le, line-put}
 use Rattle.demands.specs.Sending.{accept, sentBack, Answered}
-use Rattle.demands.specs.Refusals.{KeepsRecord, HasRow, MayBeDrawn}
+use Rattle.demands.specs.Refusals.{KeepsRecord, TakenSheet, HasRow, MayBeDrawn}
 use Rattle.demands.specs.Refusals.{readRefusals, writeRefusals, listRefusals, buildRefusals}
-use Rattle.demands.specs.Refusals.{rescoreRefusals, drawRefusals, roomRefusals}
+use Rattle.demands.specs.Refusals.{sheetRefusals, rescoreRefusals, drawRefusals, roomRefusals}
 use Rattle.demands.specs.Trees.{ShapeOf}
 use Rattle.demands.specs.Demands.{Demand1}
 use Rattle.demands.proofs.Shapes.{shape-of, shape-is}
 use Rattle.demands.proofs.Answered.{says-none, says-room, refusal-is, answered, answered-room, answered-given}
 use Rattle.demands.proofs.Reasons.{says-reading, reading-none, says-writing, writing-none, says-listing, says-building}
+use Rattle.demands.proofs.Reasons.{says-importing, importing-none}
 use Rattle.demands.proofs.Reasons.{building-none, fit-iff, says-rescoring, rescoring-none, says-drawing, drawing-none}
 
 -- ---- records
@@ -88,6 +91,15 @@ unfolding buildTable
 build-answered l d =
     answered (buildReasons narrow l d) zeroTable 0 (tableOf d (builtTable narrow d (rowsOf narrow l)))
     (says-building narrow l d) (building-none narrow l d)
+
+-- ---- gel sheets
+
+import-answered : (s room : List ℕ)
+    → Answered (importSheet s room) (sheetRefusals s room) (TakenSheet s room) (length (sheetRows s)) (imported s room) (notImported room)
+unfolding importSheet
+import-answered s room =
+    answered (importReasons s room) (notImported room) (length (sheetRows s)) (imported s room) (says-importing s room)
+    (importing-none s room)
 
 -- ---- tables
 
@@ -234,6 +246,7 @@ demand1 = record {
   text-shape = text-shape;
   shape-only = shape-only;
   text-is = text-is;
+  import-sheet = import-answered;
   put = answered-given;
   line = line-answered;
   line-refused = line-refused;

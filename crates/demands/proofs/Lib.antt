@@ -15,6 +15,8 @@ pub mod Demand3
 mod Drawn
 -- the trees of a list are counted, and the first heaviest is drawn
 pub mod Demand2
+-- the lists that are made of gel sheets
+pub mod Sheets
 -- rescoring tables that no build made
 pub mod Reworks
 -- of each public operation, two outcomes that its promise allows are equal

@@ -2,6 +2,7 @@
 --     says-reading, reading-none     one record
 --     says-writing, writing-none     one record into a room
 --     says-listing, says-building, building-none     a list
+--     says-importing, importing-none     a gel sheet
 --     fit-iff     a table is fit
 --     says-rescoring, rescoring-none     a rescoring
 --     says-drawing, drawing-none     what is drawn of a table
@@ -24,7 +25,7 @@ use Rattle.laws.proofs.Keep.{every→, →every}
 use Rattle.laws.proofs.Tests.{T-and, and-T, true-T, eq→eqb}
 use Rattle.trees.specs.Tree.{isTree}
 use Rattle.answers.specs.declared.refusal.Refusal.the-variants.{NoBytes, WrongLength, TooLong, DegreeOut, BadRecord, Repeated}
-use Rattle.answers.specs.declared.refusal.Refusal.the-variants.{NoTree, Unfit, NoRow, BadScore}
+use Rattle.answers.specs.declared.refusal.Refusal.the-variants.{NoTree, Unfit, NoRow, BadScore, BadSheet, ManyClusters}
 use Rattle.answers.specs.Reasons.{Reason, NoneApplies}
 use Rattle.cluster.specs.declared.record.Record.{Record}
 use Rattle.cluster.specs.Record.{recordBytes, rowOf, hasSpare}
@@ -37,6 +38,10 @@ use Rattle.lists.specs.Records.{recordsIn, firstBad, firstRepeat}
 use Rattle.lists.specs.Listing.{listReasons}
 use Rattle.lists.proofs.Laws.Reasons.{empty-iff, long-iff, cut-iff, bad-iff, repeated-iff}
 use Rattle.lists.proofs.Theorems.{accepted-iff}
+use Rattle.gel.specs.Lines.{firstFault, isBadSheet}
+use Rattle.gel.specs.Columns.{sheetRows, sheetBytes}
+use Rattle.gel.specs.Import.{importReasons}
+use Rattle.gel.proofs.Theorems.{wrong-iff, many-iff, taken-iff}
 use Rattle.kept.specs.declared.table.Table.{Table}
 use Rattle.kept.specs.View.{rowAt}
 use Rattle.kept.specs.Fit.{isFit}
@@ -52,9 +57,9 @@ use Rattle.table.specs.Build.{buildReasons}
 use Rattle.table.specs.Rescore.{rescoreReasons}
 use Rattle.demands.specs.Sending as words
 use Rattle.demands.specs.Sending.{Sending}
-use Rattle.demands.specs.Refusals.{KeepsRecord, HasRow, HasTree, MarksTree, MayBeDrawn}
-use Rattle.demands.specs.Refusals.{readRefusals, listRefusals, buildRefusals, rescoreRefusals, drawRefusals}
-use Rattle.demands.proofs.Answered.{Says, says-none, says-when, says-at, says-unless, passes-iff}
+use Rattle.demands.specs.Refusals.{KeepsRecord, TakenSheet, HasRow, HasTree, MarksTree, MayBeDrawn}
+use Rattle.demands.specs.Refusals.{readRefusals, listRefusals, buildRefusals, sheetRefusals, rescoreRefusals, drawRefusals}
+use Rattle.demands.proofs.Answered.{Says, says-none, says-when, says-at, says-unless, says-room, passes-iff}
 
 -- ---- records
 
@@ -109,6 +114,21 @@ module _ (W : Width) (l : List ℕ) where
     building-none =
         let degree = passes-iff (isDegree d) (λ h. h, λ h. h) in
         (λ k. (degree .0 (k .0), accepted-iff W l .0 (k .1)), λ h. (degree .1 (h .0), accepted-iff W l .1 (h .1)))
+
+-- ---- gel sheets
+
+module _ (s room : List ℕ) where
+  pub says-importing : Says (importReasons s room) (sheetRefusals s room)
+  says-importing =
+      says-at (isBadSheet s) BadSheet (firstFault s) (λ p. refl) (wrong-iff s)
+      (says-when (ltb (narrow .rows) (length (sheetRows s))) ManyClusters refl (many-iff s) (λ _. says-room (sheetBytes s) room))
+
+  pub importing-none : NoneApplies (importReasons s room) ↔ TakenSheet s room
+  importing-none =
+      let iff = taken-iff s room in (
+        λ k. let h = iff .0 k in record { right = h .0; few = h .1; fits = h .2 },
+        λ t. iff .1 (t .right, t .few, t .fits),
+      )
 
 -- ---- rows of a table
 

@@ -6,7 +6,15 @@ use Rattle.demands.proofs.Demand1.{demand1}
 use Rattle.demands.proofs.Demand2.{demand2}
 use Rattle.demands.proofs.Demand3.{demand3}
 use Rattle.demands.proofs.Reworks.{reworks}
+use Rattle.demands.proofs.Sheets.{makes-lists}
 use Rattle.demands.proofs.OneOutcome.{one-outcome}
 
 pub demands-met : Demands
-demands-met = record { demand1 = demand1; demand2 = demand2; demand3 = demand3; reworks = reworks; one-outcome = one-outcome }
+demands-met = record {
+  demand1 = demand1;
+  demand2 = demand2;
+  demand3 = demand3;
+  reworks = reworks;
+  makes-lists = makes-lists;
+  one-outcome = one-outcome;
+}

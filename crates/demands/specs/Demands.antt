@@ -11,12 +11,14 @@
 --     Demand2             all of this for every accepted list, changed or not, with its table, rescored or not
 --     Demand3             a rescored table is the fresh build, and what a rescoring leaves alone
 --     Reworks             tables that no build made: what stands in a row that a rescoring works out again
+--     madeList s room     the list that an import has put at the start of a room
+--     MakesLists s room   gel sheets: what that list is, and that a build takes it
 --     Demands             all of them, with one outcome for every public operation (`OneOutcome.antt`)
 -- Assumes nothing.
 use mathlib.Core.Path.{_≡_}
 use mathlib.Core.Logic.{_≢_, _↔_}
 use mathlib.Core.List.{List, [], _++_, List·Memᴰ as Mem}
-use Prim.Native.Nat.{ℕ, _^_, _≤_, _<_}
+use Prim.Native.Nat.{ℕ, _*_, _^_, _≤_, _<_}
 use lib.Dec.{T}
 use lib.IntN.{ℤ}
 use lib.ListN.{length, take, drop}
@@ -38,9 +40,13 @@ use Rattle.cluster.specs.Record.{recordBytes, rowIn, recordOf, bytesOf}
 use Rattle.cluster.specs.Rule.{KeepsScore}
 use Rattle.cluster.specs.Reading.{KeepsBytes, zeroRecord, readRecord}
 use Rattle.cluster.specs.Writing.{writeRecord}
-use Rattle.lists.specs.Records.{rowsOf}
+use Rattle.lists.specs.Records.{recordsIn, listedAt, rowsOf}
 use Rattle.lists.specs.Listing.{listed, readList}
 use Rattle.lists.specs.Accepted.{Bytes, Accepted, HasCluster}
+use Rattle.gel.specs.Lines.{widthOf}
+use Rattle.gel.specs.Columns.{columnsWith, sheetRows}
+use Rattle.gel.specs.Facts.{IsRead, GivenBy, AreLines, SheetRow, Numbered}
+use Rattle.gel.specs.Import.{imported, notImported, importSheet}
 use Rattle.kept.specs.declared.table.Table.{Table}
 use Rattle.kept.specs.View.{rowAt, resultAt, entryAt, tableOf, zeroTable}
 use Rattle.kept.specs.Fit.{isFit}
@@ -56,9 +62,9 @@ use Rattle.digests.specs.Digest.{rescoredTimes}
 use Rattle.report.specs.Words.{signed, refusedLine}
 use Rattle.report.specs.Line.{lineCap, lineOf, lineInto}
 use Rattle.demands.specs.Sending.{accept, sentBack, Answered}
-use Rattle.demands.specs.Refusals.{KeepsRecord, HasRow, MayBeDrawn}
+use Rattle.demands.specs.Refusals.{KeepsRecord, TakenSheet, HasRow, MayBeDrawn}
 use Rattle.demands.specs.Refusals.{readRefusals, writeRefusals, listRefusals, buildRefusals}
-use Rattle.demands.specs.Refusals.{rescoreRefusals, drawRefusals, roomRefusals}
+use Rattle.demands.specs.Refusals.{sheetRefusals, rescoreRefusals, drawRefusals, roomRefusals}
 use Rattle.demands.specs.Trees.{leafSetOf, treesAt, treesOfList, EveryTree, FirstBy, TellsTrees, ShapeOf, printedCount}
 use Rattle.demands.specs.Worked.{WorkedRow}
 use Rattle.demands.specs.OneOutcome.{OneOutcome}
@@ -106,6 +112,9 @@ pub record Demand1 : Type 0 where
   pub text-shape : (t : Table) → MayBeDrawn narrow t → (s : Shape) × ShapeOf (membersOf t) s
   pub shape-only : (t : Table) → MayBeDrawn narrow t → (s u : Shape) → ShapeOf (membersOf t) s → ShapeOf (membersOf t) u → s ≡ u
   pub text-is : (t : Table) → MayBeDrawn narrow t → (s : Shape) → ShapeOf (membersOf t) s → leafText t ≡ textBytes s
+  -- gel sheets and rooms; what the list is is said below
+  pub import-sheet : (s room : List ℕ)
+      → Answered (importSheet s room) (sheetRefusals s room) (TakenSheet s room) (length (sheetRows s)) (imported s room) (notImported room)
   -- bytes and rooms
   pub put : (out room : List ℕ)
       → Answered (written [] out room) (roomRefusals out room) (length out ≤ length room) (length out) (putInto out room) room
@@ -233,6 +242,28 @@ pub record Reworks : Type 0 where
   pub fit : (t : Table) (c : ℕ) (z : ℤ) (s : ℕ) → rescoreTable narrow t c z s .sent .number ≡ 0
       → FitTable narrow (rescoreTable narrow t c z s .given)
 
+-- ---- gel sheets: the list that is made
+
+abbrev pub madeList : List ℕ → List ℕ → List ℕ
+madeList s room = let o = importSheet s room in take (o .sent .told * recordBytes) (o .given .room)
+
+-- of a sheet that is imported into a room
+pub record MakesLists (s room : List ℕ) : Type 0 where
+  -- as many records as are told, ascending, and a build takes them at every degree bound
+  pub records : recordsIn narrow (madeList s room) ≡ importSheet s room .sent .told
+  pub ascends : (i j : ℕ) → i < j → j < recordsIn narrow (madeList s room)
+      → listedAt narrow (madeList s room) i .cluster < listedAt narrow (madeList s room) j .cluster
+  pub accepted : AcceptedBytes narrow (madeList s room)
+  pub built : (d : ℕ) → T (isDegree d) → buildTable narrow (madeList s room) d .sent .number ≡ 0
+  -- the rows are the clusters of columns, of each line and of all lines, scored, each with the number of columns that gave it
+  pub rows : (d : ℕ) → T (isDegree d) → (r : Row) → let t = buildTable narrow (madeList s room) d .given in
+      ((i : ℕ) × (i < t .rows) × (rowAt t i ≡ r)) ↔ SheetRow s r
+  pub weights : (c : ℕ) → c ≢ 0 → Numbered (λ (j : ℕ). GivenBy s j c) (columnsWith s c)
+  -- so all lines are the leaf set
+  pub leaf-set : AreLines s (leafSetOf narrow (madeList s room))
+  -- the columns with a ? are told, whatever else they hold
+  pub unread : Numbered (λ (j : ℕ). (j < widthOf s) × (IsRead s j → ⊥)) (importSheet s room .given .unread)
+
 -- ---- all of them
 
 pub record Demands : Type 0 where
@@ -240,5 +271,6 @@ pub record Demands : Type 0 where
   pub demand2 : Demand2
   pub demand3 : Demand3
   pub reworks : Reworks
+  pub makes-lists : (s room : List ℕ) → importSheet s room .sent .number ≡ 0 → MakesLists s room
   -- strict marking: of each public operation, two outcomes that its promise allows are equal
   pub one-outcome : OneOutcome

@@ -12,7 +12,7 @@ use mathlib.Core.Path.{_≡_}
 use mathlib.Core.Logic.{_≢_}
 use mathlib.Core.Bool.{false}
 use mathlib.Core.List.{List, map, List·Memᴰ as Mem}
-use Prim.Native.Nat.{ℕ, _%_, _<_}
+use Prim.Native.Nat.{ℕ, _%_, _≤_, _<_}
 use lib.Dec.{T}
 use lib.IntN.{ℤ}
 use lib.ListN.{length}
@@ -24,6 +24,8 @@ use Rattle.cluster.specs.Record.{recordBytes}
 use Rattle.cluster.specs.Rule.{Keeps, KeepsScore}
 use Rattle.cluster.specs.Reading.{KeepsBytes}
 use Rattle.lists.specs.Accepted.{FirstBad, FirstRepeat}
+use Rattle.gel.specs.Columns.{sheetRows, sheetBytes}
+use Rattle.gel.specs.Facts.{FirstWrong, RightSheet}
 use Rattle.kept.specs.declared.table.Table.{Table}
 use Rattle.kept.specs.View.{rowAt, resultAt}
 use Rattle.kept.specs.Facts.{FitTable}
@@ -58,6 +60,17 @@ roomRefusals out room = refuse 11 (length room < length out) accept
 
 abbrev pub writeRefusals : Record → List ℕ → Sending
 writeRefusals r room = refuse 5 (KeepsRecord r → ⊥) (refuse 11 (length room < recordBytes) accept)
+
+-- ---- gel sheets
+
+abbrev pub sheetRefusals : List ℕ → List ℕ → Sending
+sheetRefusals s room =
+    refuseAt 12 (FirstWrong s) (refuse 13 (narrow .rows < length (sheetRows s)) (roomRefusals (sheetBytes s) room))
+
+pub record TakenSheet (s room : List ℕ) : Type 0 where
+  pub right : RightSheet s
+  pub few : length (sheetRows s) ≤ narrow .rows
+  pub fits : length (sheetBytes s) ≤ length room
 
 -- ---- tables
 

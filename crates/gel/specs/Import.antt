@@ -1,7 +1,7 @@
 -- The import of a gel sheet: why it is refused, and what it gives (RULES 13).
 --     Imported            how many columns have a ?, and the room afterwards
 --     importOf r room     the code's import as an outcome
---     notImported room    what a refusal leaves
+--     notImported room, imported s room     what a refusal leaves, and what a success gives
 --     sheetReasons s      why a sheet is refused, the room left aside: 12, then 13
 --     importReasons s room     then 11
 --     importSheet s room  what importing the sheet s into a room gives: a refusal, or else the list stands first, and the number of its
@@ -30,6 +30,10 @@ importOf r room = outcomeOf (r .answer) (record { unread = r .unread; room = roo
 abbrev pub notImported : List ℕ → Imported
 notImported room = record { unread = 0; room = room }
 
+-- what a success gives: the list stands first in the room
+abbrev pub imported : List ℕ → List ℕ → Imported
+imported s room = record { unread = unreadColumns s; room = putInto (sheetBytes s) room }
+
 abbrev pub sheetReasons : List ℕ → List Reason
 sheetReasons s =
     when (isBadSheet s) (BadSheet (firstFault s)) ∷ when (ltb (narrow .rows) (length (sheetRows s))) ManyClusters ∷ []
@@ -39,5 +43,4 @@ importReasons s room = sheetReasons s ++ (when (ltb (length room) (length (sheet
 
 unfoldable pub importSheet : List ℕ → List ℕ → Outcome Imported
 importSheet s room =
-    ended (firstReason (importReasons s room)) (notImported room) (length (sheetRows s))
-    (record { unread = unreadColumns s; room = putInto (sheetBytes s) room })
+    ended (firstReason (importReasons s room)) (notImported room) (length (sheetRows s)) (imported s room)

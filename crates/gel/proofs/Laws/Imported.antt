@@ -24,14 +24,11 @@ use Rattle.cluster.specs.Record.{recordBytes}
 use Rattle.lists.proofs.Laws.Written.{written-length}
 use Rattle.gel.specs.Lines.{firstFault, isBadSheet}
 use Rattle.gel.specs.Columns.{unreadColumns, sheetRows, sheetBytes}
-use Rattle.gel.specs.Import.{Imported, notImported, importReasons, importSheet}
+use Rattle.gel.specs.Import.{Imported, notImported, imported, importReasons, importSheet}
 
 module _ (s room : List ℕ) where
-  abbrev pub imported : Imported
-  imported = record { unread = unreadColumns s; room = putInto (sheetBytes s) room }
-
   abbrev endedBy : Option Refusal → Outcome Imported
-  endedBy o = ended o (notImported room) (length (sheetRows s)) imported
+  endedBy o = ended o (notImported room) (length (sheetRows s)) (imported s room)
 
   pub import-is : importSheet s room ≡ endedBy (firstReason (importReasons s room))
   unfolding importSheet
@@ -71,7 +68,7 @@ module _ (s room : List ℕ) where
       import-short h =
           last true (T-true isShort (lt→ltb (length room) (length (sheetBytes s)) (omega (arith, h, bytes-length))))
 
-      pub import-done : length (sheetRows s) * recordBytes ≤ length room → importSheet s room ≡ outcomeOf (Done (length (sheetRows s))) imported
+      pub import-done : length (sheetRows s) * recordBytes ≤ length room → importSheet s room ≡ outcomeOf (Done (length (sheetRows s))) (imported s room)
       import-done h =
           last false
           (T-false isShort (λ t. omega (arith, h, bytes-length, ltb→lt (length room) (length (sheetBytes s)) t)))
