@@ -23,7 +23,8 @@ use Rattle.gel.proofs.Laws.Imported.{bytes-length}
 use Rattle.gel.proofs.Laws.Made.{Sized}
 use Rattle.gel.proofs.Laws.Numbered.{counted-columns, counted-unread}
 use Rattle.gel.proofs.Laws.Ones.{all-iff}
-use Rattle.gel.proofs.Theorems.{right-sized, row-iff, made-back, made-bytes, made-accepted, made-records, made-ascends, made-leaves}
+use Rattle.gel.proofs.Theorems.{right-sized}
+use Rattle.gel.proofs.MadeLists.{row-iff, made-back, made-bytes, made-accepted, made-records, made-ascends, made-leaves}
 use Rattle.kept.specs.View.{rowAt}
 use Rattle.table.specs.Build.{buildTable}
 use Rattle.table.specs.Changes.{AcceptedBytes}
@@ -35,7 +36,8 @@ use Rattle.demands.proofs.Demand1.{demand1}
 use Rattle.demands.proofs.Demand2.{demand2}
 
 module _ (s room : List ℕ) where
-  answered : Answered (importSheet s room) (sheetRefusals s room) (TakenSheet s room) (length (sheetRows s)) (imported s room) (notImported room)
+  answered :
+      Answered (importSheet s room) (sheetRefusals s room) (TakenSheet s room) (length (sheetRows s)) (imported s room) (notImported room)
   answered = demand1 .import-sheet s room
 
   module _ (done : importSheet s room .sent .number ≡ 0) where
@@ -57,8 +59,14 @@ module _ (s room : List ℕ) where
     list-accepted : AcceptedBytes narrow (sheetBytes s)
     list-accepted = record { byte = made-bytes s sized; accepted = made-accepted s sized (taken .few) }
 
-    table-rows : (d : ℕ) → T (isDegree d) → (r : Row) → let t = buildTable narrow (sheetBytes s) d .given in
-        ((i : ℕ) × (i < t .rows) × (rowAt t i ≡ r)) ↔ SheetRow s r
+    -- what is said of a list
+    abbrev Ascends : List ℕ → Type 0
+    Ascends l = (i j : ℕ) → i < j → j < recordsIn narrow l → listedAt narrow l i .cluster < listedAt narrow l j .cluster
+
+    abbrev TableRow : ℕ → Row → List ℕ → Type 0
+    TableRow d r l = let t = buildTable narrow l d .given in ((i : ℕ) × (i < t .rows) × (rowAt t i ≡ r)) ↔ SheetRow s r
+
+    table-rows : (d : ℕ) → T (isDegree d) → (r : Row) → TableRow d r (sheetBytes s)
     table-rows d q r =
         let table = demand2 .rows-tell (sheetBytes s) d [] list-accepted q .rows r in
         let sheet = row-iff s r in (
@@ -69,17 +77,15 @@ module _ (s room : List ℕ) where
     pub makes-lists : MakesLists s room
     makes-lists = record {
       records = ap (recordsIn narrow) list-is ∙ made-records s sized ∙ sym told-is;
-      ascends = subst (λ (l : List ℕ). (i j : ℕ) → i < j → j < recordsIn narrow l → listedAt narrow l i .cluster < listedAt narrow l j .cluster)
-          (sym list-is) (made-ascends s sized);
+      ascends = subst Ascends (sym list-is) (made-ascends s sized);
       accepted = subst (AcceptedBytes narrow) (sym list-is) list-accepted;
       built = λ d q. subst (λ (l : List ℕ). buildTable narrow l d .sent .number ≡ 0) (sym list-is)
           (demand1 .build (sheetBytes s) d .taken .1 (q, list-accepted .accepted));
-      rows = λ d q r. subst (λ (l : List ℕ). ((i : ℕ) × (i < buildTable narrow l d .given .rows) × (rowAt (buildTable narrow l d .given) i ≡ r))
-          ↔ SheetRow s r) (sym list-is) (table-rows d q r);
+      rows = λ d q r. subst (TableRow d r) (sym list-is) (table-rows d q r);
       weights = counted-columns s;
       leaf-set = subst (AreLines s) (sym leaves-are) (all-iff s);
-      unread = subst (Numbered (λ (j : ℕ). (j < widthOf s) × (IsRead s j → ⊥))) (sym (ap (λ (i : Imported). i .unread) (answered .gives done)))
-          (counted-unread s);
+      unread = subst (Numbered (λ (j : ℕ). (j < widthOf s) × (IsRead s j → ⊥)))
+          (sym (ap (λ (i : Imported). i .unread) (answered .gives done))) (counted-unread s);
     }
       where
         leaves-are : leafSetOf narrow (madeList s room) ≡ allOf (lineCount s)

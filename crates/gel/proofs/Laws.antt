@@ -11,6 +11,7 @@ pub mod Keys
 pub mod Gathered
 pub mod Counted
 pub mod Adding
+pub mod Held
 pub mod Tallied
 pub mod Numbered
 -- the list that is made, and how it is written

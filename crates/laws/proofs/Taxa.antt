@@ -1,5 +1,6 @@
 -- The number of taxa of a cluster, one-taxon clusters, and the highest taxon.
 --     taxa-mem, mem-taxa        the one-taxon clusters of a width
+--     taxa-length, taxa-falls   how many there are, and that they fall
 --     size-taxon, size-pos      one taxon has size 1, and what isn't nothing has 1 at least
 --     size-part, size-lt     a part and the rest, and a part that isn't all
 --     single→, →single          exactly one taxon: a power of two
@@ -18,8 +19,10 @@ use lib.Arith.{bin-ind}
 use lib.Bits.{bitAnd, and-step, and-le-r}
 use lib.Count.{ones, onesIn, ones-step}
 use lib.Dec.{T, eqb→eq, lit<}
-use lib.Pow.{pow-pos, pow-mono}
+use lib.ListN.{length}
+use lib.Pow.{pow-pos, pow-mono, pow-lt}
 use Rattle.laws.specs.Cluster.{inside, strict, size, single, taxa, halvings, highest}
+use Rattle.laws.specs.Orders.{Falling}
 use Rattle.laws.proofs.Tests.{eq→eqb}
 use Rattle.laws.proofs.Cluster.{inside→, inside-antisym, le-of-inside, inside-of-has, strict→}
 use Rattle.laws.proofs.Digits.{Has, has-of-nonzero, pow-has}
@@ -37,6 +40,14 @@ taxa-mem (suc w) t h = go (ℕ-discrete t w) (λ k. taxa-mem w t k)
 pub mem-taxa : (w u : ℕ) → Mem u (taxa w) → (t : ℕ) × (t < w) × (u ≡ 2 ^ t)
 mem-taxa (suc w) u (here e) = (w, omega arith, e)
 mem-taxa (suc w) u (there m) = let q = mem-taxa w u m in (q .0, omega (arith, q .1), q .2)
+
+pub taxa-length : (w : ℕ) → length (taxa w) ≡ w
+taxa-length zero = refl
+taxa-length (suc w) = ap suc (taxa-length w)
+
+pub taxa-falls : (w : ℕ) → Falling (taxa w)
+taxa-falls zero = tt
+taxa-falls (suc w) = (λ u m. let q = mem-taxa w u m in rw (q .2) (pow-lt (q .1)), taxa-falls w)
 
 -- ---- how many taxa
 

@@ -4,13 +4,13 @@
 --     import-done       the list is made
 --     bytes-length      how many bytes it has
 -- Assumes nothing.
-use mathlib.Core.Path.{_≡_, refl, sym, ap, ap₂, _∙_}
+use mathlib.Core.Path.{_≡_, refl, ap, ap₂, _∙_}
 use mathlib.Core.Bool.{Bool, true, false}
-use mathlib.Core.Option.{Option, none, some}
+use mathlib.Core.Option.{Option}
 use mathlib.Core.List.{List, [], _∷_}
 use Prim.Native.Nat.{ℕ, _*_, _≤_, _<_}
 use native.Mathlib.Omega.{arith}
-use lib.Dec.{T, ltb, ltb→lt, lt→ltb}
+use lib.Dec.{ltb, ltb→lt, lt→ltb}
 use lib.ListN.{length}
 use Rattle.laws.specs.Limits.{narrow}
 use Rattle.laws.proofs.Tests.{T-true, T-false}
@@ -18,12 +18,12 @@ use Rattle.laws.proofs.Width.{narrow-facts}
 use Rattle.answers.specs.declared.refusal.Answer.the-variants.{Done, Refused}
 use Rattle.answers.specs.declared.refusal.Refusal.{Refusal}
 use Rattle.answers.specs.declared.refusal.Refusal.the-variants.{NoRoom, BadSheet, ManyClusters}
-use Rattle.answers.specs.Outcome.{Outcome, outcomeOf, ended, putInto}
-use Rattle.answers.specs.Reasons.{Reason, when, firstReason}
+use Rattle.answers.specs.Outcome.{Outcome, outcomeOf, ended}
+use Rattle.answers.specs.Reasons.{when, firstReason}
 use Rattle.cluster.specs.Record.{recordBytes}
 use Rattle.lists.proofs.Laws.Written.{written-length}
 use Rattle.gel.specs.Lines.{firstFault, isBadSheet}
-use Rattle.gel.specs.Columns.{unreadColumns, sheetRows, sheetBytes}
+use Rattle.gel.specs.Columns.{sheetRows, sheetBytes}
 use Rattle.gel.specs.Import.{Imported, notImported, imported, importReasons, importSheet}
 
 module _ (s room : List ℕ) where
@@ -62,13 +62,18 @@ module _ (s room : List ℕ) where
       not-many = T-false isMany (λ t. omega (arith, few, ltb→lt (narrow .rows) (length (sheetRows s)) t))
 
       last : (short : Bool) → isShort ≡ short → importSheet s room ≡ endedBy (told false false short)
-      last short e = import-is ∙ ap₂ (λ (a b : Bool). endedBy (told a b isShort)) good not-many ∙ ap (λ (b : Bool). endedBy (told false false b)) e
+      last short e =
+          import-is
+          ∙ ap₂ (λ (a b : Bool). endedBy (told a b isShort)) good not-many
+          ∙ ap (λ (b : Bool). endedBy (told false false b)) e
 
-      pub import-short : length room < length (sheetRows s) * recordBytes → importSheet s room ≡ outcomeOf (Refused NoRoom) (notImported room)
+      pub import-short : length room < length (sheetRows s) * recordBytes
+          → importSheet s room ≡ outcomeOf (Refused NoRoom) (notImported room)
       import-short h =
           last true (T-true isShort (lt→ltb (length room) (length (sheetBytes s)) (omega (arith, h, bytes-length))))
 
-      pub import-done : length (sheetRows s) * recordBytes ≤ length room → importSheet s room ≡ outcomeOf (Done (length (sheetRows s))) (imported s room)
+      pub import-done : length (sheetRows s) * recordBytes ≤ length room
+          → importSheet s room ≡ outcomeOf (Done (length (sheetRows s))) (imported s room)
       import-done h =
           last false
           (T-false isShort (λ t. omega (arith, h, bytes-length, ltb→lt (length room) (length (sheetBytes s)) t)))

@@ -10,20 +10,19 @@
 -- Assumes nothing.
 use mathlib.Core.Path.{_≡_, refl, sym, ap, ap₂, _∙_, subst}
 use mathlib.Core.Logic.{_≢_, _⊎_, inl, inr}
-use mathlib.Core.Bool.{Bool, not}
-use mathlib.Core.List.{List, [], _∷_, _++_, map, Memᴰ·map, Memᴰ·of-map, Memᴰ·append-right, List·Memᴰ·append-cases}
+use mathlib.Core.Bool.{not}
+use mathlib.Core.List.{List, _∷_, _++_, map, map-id, Memᴰ·map, Memᴰ·of-map, Memᴰ·append-right, List·Memᴰ·append-cases}
 use mathlib.Core.List.{List·Memᴰ as Mem, List·Memᴰ·head as here, List·Memᴰ·tail as there}
-use Prim.Native.Nat.{ℕ, suc, _+_, _-_, _*_, _/_, _%_, _^_, _≤_, _<_}
+use Prim.Native.Nat.{ℕ, _+_, _^_, _≤_, _<_}
 use native.Mathlib.Decide.{decLe}
 use native.Mathlib.Omega.{arith}
 use lib.Dec.{T, eqb}
 use lib.IntN.{pos}
 use lib.ListN.{length, length-map}
 use lib.Pow.{pow-mono, pow-pos, pow-lt}
-use Rattle.laws.specs.Cluster.{taxa}
 use Rattle.laws.specs.Limits.{narrow}
 use Rattle.laws.specs.Lists.{keep}
-use Rattle.laws.specs.Orders.{Falling, downTo}
+use Rattle.laws.specs.Orders.{Falling}
 use Rattle.laws.specs.Row.{Row}
 use Rattle.laws.proofs.Appended.{map-through}
 use Rattle.laws.proofs.Down.{down-length, down-map, down-mem, mem-down}
@@ -34,13 +33,15 @@ use Rattle.trees.specs.Rows.{clustersOf}
 use Rattle.cluster.specs.Rule.{keepsRules}
 use Rattle.gel.specs.declared.tally.Tally.{Tally}
 use Rattle.gel.specs.Lines.{lineMax, widthMax, lineCount, widthOf}
-use Rattle.gel.specs.Columns.{isUnread, clusterOf, scoresIn, allOf, markAt, columnAt, columnsOf, scoresOf, sheetClusters, columnsWith, rowOfCluster, sheetRows}
+use Rattle.gel.specs.Columns.{isUnread, clusterOf, allOf, markAt, columnAt, columnsOf}
+use Rattle.gel.specs.Columns.{scoresOf, sheetClusters, rowOfCluster, sheetRows}
 use Rattle.gel.specs.Form.{Formed}
-use Rattle.gel.specs.Tally.{keyUnit, keyAt, keysTo, keyFor, TallyIs, Key, Keys, rowOfKey, rowsFrom}
+use Rattle.gel.specs.Tally.{keyUnit, keyAt, keyFor, TallyIs, Key, Keys, rowOfKey, rowsFrom}
 use Rattle.gel.proofs.Laws.Columns.{cluster-lt}
 use Rattle.gel.proofs.Laws.Counted.{count-le, key-cluster, key-count}
 use Rattle.gel.proofs.Laws.Gathered.{mem-gathered, mem-of-gathered, gathered-falls}
-use Rattle.gel.proofs.Laws.Tallied.{allLines, scores-length-le}
+use Rattle.gel.proofs.Laws.Held.{allLines}
+use Rattle.gel.proofs.Laws.Tallied.{scores-length-le}
 use Rattle.gel.proofs.Laws.Writing.{rowOfKey-rules}
 
 pub record Sized (s : List ℕ) : Type 0 where
@@ -118,11 +119,8 @@ module _ (s : List ℕ) (z : Sized s) where
       (rowOfKey-rules (keyFor (scoresOf s) (q .0)) (key-of (q .0) (q .1)))
 
   pub made-clusters : clustersOf (sheetRows s) ≡ sheetClusters s
-  made-clusters = map-through (rowOfCluster s) (λ (r : Row). r .cluster) (λ (c : ℕ). c) (λ c. refl) (sheetClusters s) ∙ same (sheetClusters s)
-    where
-      same : (l : List ℕ) → map (λ (c : ℕ). c) l ≡ l
-      same [] = refl
-      same (c ∷ l) = ap (λ (t : List ℕ). c ∷ t) (same l)
+  made-clusters =
+      map-through (rowOfCluster s) (λ (r : Row). r .cluster) (λ (c : ℕ). c) (λ c. refl) (sheetClusters s) ∙ map-id (sheetClusters s)
 
   pub made-falls : Falling (clustersOf (sheetRows s))
   made-falls = subst Falling (sym made-clusters) (gathered-falls (scoresOf s ++ allLines (lineCount s)))

@@ -5,7 +5,7 @@
 use mathlib.Core.Path.{_≡_, refl, sym, ap, _∙_, subst}
 use mathlib.Core.Logic.{_≢_, _⊎_, inl, inr, _↔_}
 use mathlib.Core.Bool.{Bool, true, false, cond}
-use mathlib.Core.List.{List, _∷_, map, List·Memᴰ as Mem}
+use mathlib.Core.List.{List, _∷_, List·Memᴰ as Mem}
 use Prim.Native.Nat.{ℕ, zero, suc, _^_, _<_}
 use lib.Dec.{T, eqb, eqb→eq}
 use lib.ListN.{length, length-map}
@@ -30,7 +30,10 @@ module _ (p : ℕ → Bool) (n : ℕ) where
 
   pub places-iff : (j : ℕ) → Mem j (keep p (places n)) ↔ ((j < n) × T (p j))
   places-iff j = (
-    λ m. let q = mem-of-keep p (places n) m in let k = mem-down (λ (i : ℕ). i) n j (q .0) in (subst (λ (x : ℕ). x < n) (sym (k .2)) (k .1), q .1),
+    λ m.
+        let q = mem-of-keep p (places n) m in
+        let k = mem-down (λ (i : ℕ). i) n j (q .0) in
+        (subst (λ (x : ℕ). x < n) (sym (k .2)) (k .1), q .1),
     λ q. mem-keep p (places n) (down-mem (λ (i : ℕ). i) n j (q .0)) (q .1),
   )
 
@@ -82,7 +85,8 @@ module _ (s : List ℕ) where
         from k = (
           k .within,
           eq→eqb c (given (columnAt s j))
-              (ones-only s j c (k .ones) ∙ sym (cond-false (isUnread (columnAt s j)) 0 (clusterOf (columnAt s j)) (read-iff s j .1 (k .read)))),
+              (ones-only s j c (k .ones)
+              ∙ sym (cond-false (isUnread (columnAt s j)) 0 (clusterOf (columnAt s j)) (read-iff s j .1 (k .read)))),
         )
 
     pub counted-columns : Numbered (λ (j : ℕ). GivenBy s j c) (columnsWith s c)

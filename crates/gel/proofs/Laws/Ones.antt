@@ -6,16 +6,15 @@
 --     read-iff         a column has no ?
 -- Assumes nothing.
 use mathlib.Core.Path.{_≡_, refl, sym, ap, _∙_, subst}
-use mathlib.Core.Logic.{_≢_, _⊎_, inl, inr, _↔_}
+use mathlib.Core.Logic.{_⊎_, inl, inr, _↔_}
 use mathlib.Core.Bool.{Bool, true, false, cond}
 use mathlib.Core.List.{List}
-use Prim.Native.Nat.{ℕ, zero, suc, _+_, _-_, _^_, _≤_, _<_}
+use Prim.Native.Nat.{ℕ, zero, suc, _+_, _^_, _≤_, _<_}
 use native.Mathlib.Decide.{decLe}
 use native.Mathlib.Nat.{pow-suc}
 use native.Mathlib.Omega.{arith}
 use lib.Bits.{bitOr}
 use lib.Dec.{T, eqb, eqb→eq}
-use lib.ListN.{length}
 use lib.Pow.{pow-pos}
 use Rattle.laws.specs.Cluster.{inside, apart}
 use Rattle.laws.specs.Orders.{downTo}
@@ -124,10 +123,17 @@ all-is (suc n) =
     )
 
 pub all-iff : (s : List ℕ) → AreLines s (allOf (lineCount s))
-all-iff s i = (
-  λ h. has→ones (λ (k : ℕ). one) (lineCount s) i (subst (λ (c : ℕ). Has c i) (sym (all-is (lineCount s))) (has-of-inside i (allOf (lineCount s)) h)) .0,
-  λ h. inside-of-has i (allOf (lineCount s)) (subst (λ (c : ℕ). Has c i) (all-is (lineCount s)) (ones→has (λ (k : ℕ). one) (lineCount s) i h refl)),
-)
+all-iff s i = (to, from)
+  where
+    to : T (inside (2 ^ i) (allOf (lineCount s))) → i < lineCount s
+    to h =
+        let ones = subst (λ (c : ℕ). Has c i) (sym (all-is (lineCount s))) (has-of-inside i (allOf (lineCount s)) h) in
+        has→ones (λ (k : ℕ). one) (lineCount s) i ones .0
+
+    from : i < lineCount s → T (inside (2 ^ i) (allOf (lineCount s)))
+    from h =
+        let ones = ones→has (λ (k : ℕ). one) (lineCount s) i h refl in
+        inside-of-has i (allOf (lineCount s)) (subst (λ (c : ℕ). Has c i) (all-is (lineCount s)) ones)
 
 pub all-only : (s : List ℕ) (c : ℕ) → AreLines s c → c ≡ allOf (lineCount s)
 all-only s c h = told c (allOf (lineCount s)) (λ i. (λ k. all-iff s i .1 (h i .0 k), λ k. h i .1 (all-iff s i .0 k)))

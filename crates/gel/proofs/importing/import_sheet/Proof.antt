@@ -1,9 +1,6 @@
 -- `gel::importing::import_sheet` meets its contract: one law for each way in which it returns. Assumes nothing.
 use borrow.Author.Needs.{needs}
 use borrow.Author.Tests.{not-true, not-false}
-use mathlib.Core.Path.{_≡_, refl, sym, ap, _∙_}
-use mathlib.Core.Bool.{true, false}
-use native.Mathlib.Omega.{arith}
 use lib.Dec.{T}
 use Rattle.laws.proofs.Tests.{true-T}
 use Rattle.gel.proofs.Laws.Ends.{ends-bad, ends-many, ends-short, ends-done}
@@ -30,7 +27,8 @@ returns-2 : tie.Need-returns-2
 returns-2 c =
     let tallied = c .before .before in
     let formed = tallied .before .before .before .form-of in
-    ends-many _ _ _ (formed .ensures) (whole (tallied .before)) _ (tallied .tally-of .ensures) (c .before .if2 .taken) _ (c .refused2 .ensures)
+    ends-many _ _ _ (formed .ensures) (whole (tallied .before)) _ (tallied .tally-of .ensures) (c .before .if2 .taken) _
+    (c .refused2 .ensures)
 
 returns-3 : tie.Need-returns-3
 returns-3 c =
@@ -51,8 +49,9 @@ returns-4 c =
     let put = c .before .before in
     let tallied = put .before .before .before .before .before .before in
     let formed = tallied .before .before .before .form-of in
-    ends-done _ _ _ (formed .ensures) (whole (tallied .before)) _ (tallied .tally-of .ensures) (put .before .before .before .before .before .if2 .left)
-    (put .before .before .before .before .if3 .left) _ (put .put-rows .ensures)
+    let roomy = put .before .before .before .before in
+    ends-done _ _ _ (formed .ensures) (whole (tallied .before)) _ (tallied .tally-of .ensures) (roomy .before .if2 .left)
+    (roomy .if3 .left) _ (put .put-rows .ensures)
 
 pub import-sheet-spec : {M : Type 1} → statement M
 import-sheet-spec =
