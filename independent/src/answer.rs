@@ -6,8 +6,9 @@ use std::cell::RefCell;
 use crate::blocks::Joint;
 use crate::formulas::{Edit, judge, rescore, work_out};
 use crate::newick::{drawn_tree, line, text};
-use crate::records::{Refusal, Row, raw_bytes, read_list, read_record, refuse};
+use crate::records::{Refusal, Row, list_bytes, raw_bytes, read_list, read_record, refuse};
 use crate::rules::OverBudget;
+use crate::sheets::import;
 use crate::solve::{BUDGET, ascending, table_of};
 use crate::stream::{Ask, put_numbers, put_sent, put_table};
 use crate::table::Table;
@@ -93,6 +94,7 @@ impl Oracle {
             Ask::Whole { d, list, edits } => {
                 self.whole_answer(&mut out, *d, list, edits, origin)?
             }
+            Ask::Import { sheet, room } => self.import_answer(&mut out, sheet, room),
         }
         Ok(out)
     }
@@ -185,14 +187,9 @@ impl Oracle {
     }
 
     fn tree_answer(&self, out: &mut Vec<u8>, table: &Table, room: &[u32]) {
-        let drawn = drawn_tree(table, self.rules);
         let mut after = room.to_vec();
-        let sent = drawn.and_then(|members| {
-            let into = after.get_mut(..members.len()).ok_or(refuse(11))?;
-            into.copy_from_slice(&members);
-            Ok(members.len() as u64)
-        });
-        put_sent(out, sent);
+        let drawn = drawn_tree(table, self.rules);
+        put_sent(out, drawn.and_then(|members| lay(&members, &mut after)));
         put_numbers(out, &after);
     }
 
@@ -219,6 +216,18 @@ impl Oracle {
         self.text_answer(out, &after, &[0xAA; 256]);
         Ok(())
     }
+
+    /// SENT, the number of `?` columns, and the room.
+    fn import_answer(&self, out: &mut Vec<u8>, sheet: &[u8], room: &[u8]) {
+        let mut after = room.to_vec();
+        let imported = import(sheet, self.rules).and_then(|imported| {
+            lay(&list_bytes(&imported.rows), &mut after)?;
+            Ok((imported.rows.len() as u64, imported.unread))
+        });
+        put_sent(out, imported.map(|(records, _)| records));
+        out.extend(imported.map_or(0, |(_, unread)| unread).to_le_bytes());
+        out.extend(after);
+    }
 }
 
 fn read_answer(out: &mut Vec<u8>, bytes: &[u8]) {
@@ -241,13 +250,15 @@ fn write_answer(out: &mut Vec<u8>, bytes: [u8; 12], room: &[u8]) {
 /// SENT and the room after bytes were written into it, if they were.
 fn put_room(out: &mut Vec<u8>, bytes: Result<&[u8], Refusal>, room: &[u8]) {
     let mut after = room.to_vec();
-    let sent = bytes.and_then(|bytes| {
-        let into = after.get_mut(..bytes.len()).ok_or(refuse(11))?;
-        into.copy_from_slice(bytes);
-        Ok(bytes.len() as u64)
-    });
-    put_sent(out, sent);
+    put_sent(out, bytes.and_then(|bytes| lay(bytes, &mut after)));
     out.extend(after);
+}
+
+/// Writes at the front of a room that is long enough, and tells how many.
+fn lay<T: Copy>(items: &[T], room: &mut [T]) -> Result<u64, Refusal> {
+    let into = room.get_mut(..items.len()).ok_or(refuse(11))?;
+    into.copy_from_slice(items);
+    Ok(items.len() as u64)
 }
 
 /// Whether a table is what a build makes of its own rows, as far as that can

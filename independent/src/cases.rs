@@ -1,10 +1,11 @@
-//! The seeded generator. Case number N of a seed asks operation N mod 9 + 1;
+//! The seeded generator. Case number N of a seed asks operation N mod 10 + 1;
 //! the first cases of each operation are the special ones, the others are
 //! drawn at random. Covers every section of docs/RULES.md.
 
 use crate::answer::{Oracle, Origin};
 use crate::blocks::Made;
 use crate::broken::{BREAKS, Change, EDGES};
+use crate::gels::random_gel;
 use crate::given::{Case, Given, built, random_edits};
 use crate::limits::random_made;
 use crate::lists::{random_list, weight};
@@ -12,8 +13,10 @@ use crate::newick::{drawn_tree, line, text};
 use crate::prng::Prng;
 use crate::records::{list_bytes, raw_bytes};
 use crate::refusals::{bad_record, faulty, single_and_pairs};
+use crate::sheets::import;
+use crate::smudged::smudged;
 use crate::special::specials;
-use crate::stream::{Ask, OPERATIONS};
+use crate::stream::{Ask, KINDS, OPERATIONS};
 use crate::table::Table;
 use crate::unbuilt::{bent, marked_unscored, marks_off, other_tree, random_fit, too_many_children};
 use crate::variants::Rules;
@@ -34,8 +37,8 @@ impl Generator {
     }
 
     pub fn case(&self, number: u64) -> Case {
-        let operation = (number % 9) as usize;
-        if let Some(case) = self.special[operation].get((number / 9) as usize) {
+        let operation = (number % KINDS) as usize;
+        if let Some(case) = self.special[operation].get((number / KINDS) as usize) {
             return case.clone();
         }
         let rng = &mut Prng::new(self.seed, number);
@@ -48,7 +51,8 @@ impl Generator {
             6 => tree_case(rng),
             7 => text_case(rng),
             8 => line_case(rng),
-            _ => whole_case(rng),
+            9 => whole_case(rng),
+            _ => import_case(rng),
         }
     }
 }
@@ -259,4 +263,35 @@ fn whole_case(rng: &mut Prng) -> Case {
     let edits = random_edits(rng, &built.unwrap_or(Table::zero()), many);
     let says = format!("d = {d}, {}, {many} rescorings", made.says);
     from_list(Ask::Whole { d, list, edits }, &made, says)
+}
+
+/// A sheet, mostly good, else with a line or two spoiled or another end.
+fn import_case(rng: &mut Prng) -> Case {
+    let (gel, mut says) = random_gel(rng);
+    let mut sheet = gel.bytes();
+    if rng.chance(20) {
+        let any = rng.below(gel.taxa);
+        let mut at = vec![rng.pick(&[0, gel.taxa / 2, gel.taxa - 1, any])];
+        at.extend(rng.chance(40).then_some(any));
+        at.sort();
+        at.dedup();
+        let (bytes, how) = smudged(rng, gel.lines(), &at);
+        sheet = bytes;
+        says += &format!(", {how}");
+    }
+    match rng.below(40) {
+        0 => {
+            sheet.truncate(rng.below(sheet.len()));
+            says += &format!(", cut to {} bytes", sheet.len());
+        }
+        1 => {
+            sheet.push(rng.pick(b"01?\n\r "));
+            says += ", a byte more at the end";
+        }
+        _ => {}
+    }
+    let due = import(&sheet, Rules::TRUE).map_or(60, |list| 12 * list.rows.len());
+    let size = size_near(rng, due, 2_048);
+    let room = rng.nonzero_bytes(size);
+    plain(Ask::Import { sheet, room }, format!("{says}, into {size} bytes"))
 }

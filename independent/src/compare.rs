@@ -13,7 +13,7 @@ use crate::answer::{Oracle, Origin, is_built};
 use crate::cases::Generator;
 use crate::given::Case;
 use crate::malformed;
-use crate::stream::{Ask, Input, OPERATIONS, TABLE_BYTES};
+use crate::stream::{Ask, Input, KINDS, OPERATIONS, TABLE_BYTES};
 use crate::variants::Variant;
 
 /// Rounds (a case of each operation) that go into one stream. Longer runs
@@ -24,8 +24,8 @@ const SHOWN: usize = 20;
 
 #[derive(Default)]
 pub struct Outcome {
-    pub compared: [u64; 9],
-    pub differed: [u64; 9],
+    pub compared: [u64; OPERATIONS.len()],
+    pub differed: [u64; OPERATIONS.len()],
     pub streams: u64,
     pub streams_differed: u64,
     shown: usize,
@@ -38,7 +38,7 @@ impl Outcome {
 
     /// The last line of a run.
     pub fn summary(&self) -> String {
-        let mut parts: Vec<String> = (0..9)
+        let mut parts: Vec<String> = (0..OPERATIONS.len())
             .map(|i| {
                 format!(
                     "{} {} compared {} differed",
@@ -76,7 +76,7 @@ pub fn run(seed: u64, count: u64, probe: &Path, variant: Option<Variant>) -> io:
         let to = count.min(from + ROUNDS);
         let mut pending = Vec::new();
         let answers = converse(probe, |send| {
-            for number in from * 9..to * 9 {
+            for number in from * KINDS..to * KINDS {
                 let case = generator.case(number);
                 send(case.ask.encode());
                 pending.push(Pending { number, expected: expected(&case, variant) });
@@ -131,7 +131,7 @@ fn judge_all(
 ) -> io::Result<()> {
     let mut at = 0;
     for p in pending {
-        let operation = (p.number % 9) as usize;
+        let operation = (p.number % KINDS) as usize;
         let end = (at + p.expected.len()).min(answers.len());
         let actual = &answers[at.min(end)..end];
         outcome.compared[operation] += 1;
@@ -185,9 +185,11 @@ fn place(operation: u8, at: usize, length: usize) -> String {
     let rooms = 17 * 2 + 4 * 128 + 256;
     match operation {
         5 => "fit or not".into(),
-        1 | 2 | 6 | 7 | 8 if at < 17 => format!("refusal's or success's {}", sent(at)),
+        1 | 2 | 6 | 7 | 8 | 10 if at < 17 => format!("refusal's or success's {}", sent(at)),
         1 => "record".into(),
         2 | 6 | 7 | 8 => format!("room, byte {}", at - 17),
+        10 if at < 25 => "number of ? columns".into(),
+        10 => format!("room, byte {}", at - 25),
         _ => {
             let after = if operation == 9 { rooms } else { 0 };
             let table = length - TABLE_BYTES - after;
@@ -282,6 +284,9 @@ fn brief(ask: &Ask) -> String {
         }
         Ask::Whole { d, list, edits } => {
             format!("d = {d}, {} bytes of list, {edits:?}", list.len())
+        }
+        Ask::Import { sheet, room } => {
+            format!("{} bytes of sheet, room {}", sheet.len(), room.len())
         }
     }
 }

@@ -1,11 +1,45 @@
 //! What the generated cases cover, from their true answers: how often each
-//! refusal (RULES 8) is met by each operation, and how many trees the built
-//! lists have.
+//! refusal (RULES 8) is met by each operation, how many trees the built lists
+//! have, and what the sheets show, where nothing may be missing.
 
 use std::collections::BTreeMap;
 
 use crate::stream::{Ask, Input, OPERATIONS};
 use crate::table::Table;
+
+/// What the sheets have to show between them.
+const SHOWN: [&str; 10] = [
+    "a list, no ? column",
+    "a list, some ? columns",
+    "12 at line 0",
+    "12 at a middle line",
+    "12 at the last line",
+    "12 at line 32",
+    "13 without a ?",
+    "13 with a ?",
+    "11 without a ?",
+    "11 with a ?",
+];
+
+/// Which of these a sheet shows; `None` for a refusal that no sheet has.
+fn shown(sheet: &[u8], answer: &[u8]) -> Option<usize> {
+    let lines = sheet.split_inclusive(|&byte| byte == b'\n').count() as u64;
+    let has_unread = sheet.contains(&b'?') as usize;
+    match (answer[0], number_at(answer, 1)) {
+        (0, _) => Some((number_at(answer, 17) > 0) as usize),
+        (12, 0) => Some(2),
+        (12, 32) => Some(5),
+        (12, position) if position + 1 == lines => Some(4),
+        (12, _) => Some(3),
+        (13, 0) => Some(6 + has_unread),
+        (11, 0) => Some(8 + has_unread),
+        _ => None,
+    }
+}
+
+fn number_at(answer: &[u8], at: usize) -> u64 {
+    u64::from_le_bytes(answer[at..at + 8].try_into().expect("eight bytes"))
+}
 
 #[derive(Default)]
 pub struct Coverage {
@@ -16,6 +50,9 @@ pub struct Coverage {
     trees: BTreeMap<u32, u64>,
     longest_text: usize,
     most_rows: u64,
+    /// Sheets by what they show.
+    sheets: [u64; SHOWN.len()],
+    most_records: u64,
 }
 
 impl Coverage {
@@ -40,8 +77,11 @@ impl Coverage {
             self.note_table(&Input { left: &answer[17..] }.table().expect("an answer is whole"));
         }
         if let (Ask::Text { .. }, 0) = (ask, answer[0]) {
-            let told = u64::from_le_bytes(answer[9..17].try_into().expect("eight bytes"));
-            self.longest_text = self.longest_text.max(told as usize);
+            self.longest_text = self.longest_text.max(number_at(answer, 9) as usize);
+        }
+        if let Ask::Import { sheet, .. } = ask {
+            self.most_records = self.most_records.max(number_at(answer, 9));
+            self.sheets[shown(sheet, answer).expect("a sheet has no other refusal")] += 1;
         }
     }
 
@@ -91,5 +131,13 @@ impl Coverage {
             self.trees.iter().map(|(d, times)| format!("{}: {times}", size(d))).collect();
         println!("built lists by trees on the leaf set: {}", trees.join(", "));
         println!("longest text {}, most rows {}", self.longest_text, self.most_rows);
+        let sheets: Vec<String> =
+            SHOWN.iter().zip(self.sheets).map(|(says, times)| format!("{says}: {times}")).collect();
+        println!("sheets: {}; most records {}", sheets.join(", "), self.most_records);
+    }
+
+    /// What no sheet showed.
+    pub fn sheets_missing(&self) -> Vec<&'static str> {
+        SHOWN.into_iter().zip(self.sheets).filter(|(_, times)| *times == 0).map(|s| s.0).collect()
     }
 }

@@ -2,7 +2,8 @@
 //! against the trees found by trying sets, and against a probe if there is
 //! one. From what a tree is and the tie rule (RULES 3 and 4), with Table 1 of
 //! Bryant and Steel, "Constructing Optimal Trees from Quartets", and the
-//! example of section 4.2 of Bryant's thesis as lists.
+//! example of section 4.2 of Bryant's thesis as lists. The sheets that were
+//! worked out by hand are told with them.
 //!
 //! With all weights zero the first tree takes, from the largest number down,
 //! every cluster it can: of an interval, or of all clusters, these are the
@@ -21,6 +22,7 @@ use crate::solve::{ascending, table_of, trees_of_rows};
 use crate::stream::{Ask, put_sent, put_table};
 use crate::table::{Results, Table};
 use crate::variants::Rules;
+use crate::worked;
 
 /// Trees that are tried for a fact, at most.
 const TRIED: u128 = 3_000_000;
@@ -182,7 +184,7 @@ pub fn run(probe: Option<&Path>) -> io::Result<bool> {
         );
         good &= agrees && asked.is_none_or(|a| a == "same");
     }
-    Ok(good)
+    Ok(good & worked::run(probe)?)
 }
 
 /// The trees of a fact's list by trying sets, if there are not too many.

@@ -70,7 +70,7 @@ fn few_taxa(rng: &mut Prng) -> Vec<u32> {
 }
 
 /// The clusters of a random tree on `taxa`, each with 2 to `most` children.
-fn random_tree(rng: &mut Prng, taxa: &[u32], most: usize, out: &mut Vec<u32>) {
+pub fn random_tree(rng: &mut Prng, taxa: &[u32], most: usize, out: &mut Vec<u32>) {
     out.push(taxa.iter().fold(0, |c, t| c | 1 << t));
     if taxa.len() < 2 {
         return;

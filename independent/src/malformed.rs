@@ -34,6 +34,7 @@ fn one_of_each() -> Vec<Ask> {
         Ask::Text { table, room: vec![1; 12] },
         Ask::Line { d: 4, list: list.clone(), room: vec![2; 30] },
         Ask::Whole { d: 5, list, edits: Vec::new() },
+        Ask::Import { sheet: b"1?1\n011\n".to_vec(), room: vec![3; 40] },
     ]
 }
 
@@ -49,7 +50,13 @@ pub fn streams(seed: u64) -> Vec<Stream> {
             all.push(with_fault(rng, &cases, &bytes[..cut], says));
         }
     }
-    for byte in [0, 10, 11, 48, 128, 255] {
+    // Between the fields of a sheet's case, and inside its two lengths.
+    let sheet = cases[9].encode();
+    for cut in [2, 3, 11, 12, 13] {
+        let says = format!("operation 10 cut between its fields, to {cut} bytes");
+        all.push(with_fault(rng, &cases, &sheet[..cut], says));
+    }
+    for byte in [0, 11, 12, 48, 128, 255] {
         all.push(with_fault(rng, &cases, &[byte], format!("operation byte {byte}")));
     }
     for (fault, says) in long_lengths(&cases) {
@@ -58,7 +65,7 @@ pub fn streams(seed: u64) -> Vec<Stream> {
     all
 }
 
-/// Cases one past the longest record, list and rooms that are allowed, with
+/// Cases past the longest record, list, sheet and rooms that are allowed, with
 /// all the bytes that the length speaks of.
 fn long_lengths(cases: &[Ask]) -> Vec<(Vec<u8>, String)> {
     let mut all = Vec::new();
@@ -79,6 +86,11 @@ fn long_lengths(cases: &[Ask]) -> Vec<(Vec<u8>, String)> {
         all.push((tree.encode(), "a room of 257 numbers".into()));
         let text = Ask::Text { table: table.clone(), room: vec![0; 513] };
         all.push((text.encode(), "a text room of 513 bytes".into()));
+    }
+    for (sheet, room) in [(8_193, 12), (65_535, 12), (4, 2_049), (8_192, 2_049), (4, 65_535)] {
+        let marks = b"101\n".iter().copied().cycle().take(sheet).collect();
+        let import = Ask::Import { sheet: marks, room: vec![0; room] };
+        all.push((import.encode(), format!("a sheet of {sheet} bytes, its room of {room}")));
     }
     all
 }

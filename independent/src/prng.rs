@@ -54,4 +54,8 @@ impl Prng {
     pub fn bytes(&mut self, n: usize) -> Vec<u8> {
         (0..n).map(|_| self.draw() as u8).collect()
     }
+
+    pub fn nonzero_bytes(&mut self, n: usize) -> Vec<u8> {
+        (0..n).map(|_| 1 + self.below(255) as u8).collect()
+    }
 }

@@ -4,7 +4,7 @@
 pub const WEIGHT_END: i32 = 1_000_000;
 pub const LIST_END: usize = 1_536;
 
-/// A refusal: its number, and a position that only 5 and 6 have.
+/// A refusal: its number, and a position that only 5, 6 and 12 have.
 #[derive(Clone, Copy, PartialEq, Eq, Debug)]
 pub struct Refusal {
     pub number: u8,

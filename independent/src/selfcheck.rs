@@ -1,8 +1,9 @@
 //! What the generated cases would show, without any program under test: for
 //! each variant, in how many cases its expected answer is not the true one.
 //! And the program against itself: trying sets against the formulas, lists
-//! from parts against plain trying, found sets against the rule of a tree.
-//! Checks the readings of RULES 3 to 7.
+//! from parts against plain trying, found sets against the rule of a tree,
+//! sheets against the columns that they were made of, and those worked by hand.
+//! Checks the readings of RULES 3 to 8.
 
 use crate::answer::{Method, Oracle, Origin};
 use crate::blocks::{Top, full_block, full_width_top};
@@ -10,15 +11,19 @@ use crate::broken::{BREAKS, EDGES};
 use crate::cases::Generator;
 use crate::compare::expected;
 use crate::coverage::Coverage;
+use crate::gels::{Column, Gel, crowd, mixed, random_gel};
 use crate::limits::{CHAINS, PAIRS, pair_list, random_made};
-use crate::lists::random_rows;
+use crate::lists::{first_taxa, random_rows};
 use crate::prng::Prng;
-use crate::records::Row;
+use crate::records::{Refusal, Row, refuse};
 use crate::rules::{each_tree, is_tree};
+use crate::sheets::{CLUSTERS, import};
+use crate::smudged::{LENGTHS, SEEN, no_sheets};
 use crate::solve::{BUDGET, ascending, table_of, trees_of_rows};
-use crate::stream::OPERATIONS;
+use crate::stream::{KINDS, OPERATIONS};
 use crate::unbuilt::random_fit;
 use crate::variants::{ALL, Rules};
+use crate::worked::worked_sheets;
 
 /// True if every variant shows and nothing disagrees.
 pub fn run(seed: u64, count: u64) -> bool {
@@ -28,6 +33,9 @@ pub fn run(seed: u64, count: u64) -> bool {
         ("sets found against the rule of a tree", sets_against_rule(seed)),
         ("counts at the limit", limits_as_said(seed)),
         ("broken tables unfit, edges fit", fitness_as_said(seed)),
+        ("sheets against their columns", sheets_as_made(seed)),
+        ("sheets at fault", faults_as_said(seed)),
+        ("sheets worked by hand", worked_sheets().iter().filter(|w| !w.agrees()).count()),
     ];
     for (says, wrong) in agreed {
         println!("{says}: {wrong} wrong");
@@ -37,11 +45,11 @@ pub fn run(seed: u64, count: u64) -> bool {
 
 fn variants_show(seed: u64, count: u64) -> bool {
     let generator = Generator::new(seed);
-    let mut differ = [[0u64; 9]; ALL.len()];
+    let mut differ = [[0u64; OPERATIONS.len()]; ALL.len()];
     let mut formulas_differ = 0;
     let mut coverage = Coverage::default();
     let formulas = Oracle { method: Method::Formulas, ..Oracle::TRUE };
-    for number in 0..count * 9 {
+    for number in 0..count * KINDS {
         let case = generator.case(number);
         let truth = expected(&case, None);
         coverage.note(&case.ask, &truth);
@@ -49,18 +57,22 @@ fn variants_show(seed: u64, count: u64) -> bool {
         formulas_differ += (other.ok().as_ref() != Some(&truth)) as u64;
         for (i, &variant) in ALL.iter().enumerate() {
             let wrong = expected(&case, Some(variant)) != truth;
-            differ[i][(number % 9) as usize] += wrong as u64;
+            differ[i][(number % KINDS) as usize] += wrong as u64;
         }
     }
     coverage.print();
     print_variants(&differ);
-    println!("{} cases, formulas against trying sets: {formulas_differ} wrong", count * 9);
-    formulas_differ == 0 && differ.iter().all(|row| row.iter().sum::<u64>() > 0)
+    println!("{} cases, formulas against trying sets: {formulas_differ} wrong", count * KINDS);
+    let missing = coverage.sheets_missing();
+    println!("shown by no sheet: {}", missing.len());
+    missing.iter().for_each(|says| println!("  {says}"));
+    let told = differ.iter().all(|row| row.iter().sum::<u64>() > 0);
+    formulas_differ == 0 && missing.is_empty() && told
 }
 
-fn print_variants(differ: &[[u64; 9]; ALL.len()]) {
+fn print_variants(differ: &[[u64; OPERATIONS.len()]; ALL.len()]) {
     for (variant, row) in ALL.iter().zip(differ) {
-        let parts: Vec<String> = (0..9)
+        let parts: Vec<String> = (0..OPERATIONS.len())
             .filter(|&i| row[i] > 0)
             .map(|i| format!("{} {}", OPERATIONS[i], row[i]))
             .collect();
@@ -193,4 +205,65 @@ fn fitness_as_said(seed: u64) -> usize {
         }
     }
     wrong
+}
+
+/// The list of a sheet is that of the columns it was made of: those without a
+/// `?` sorted and counted in runs.
+fn sheets_as_made(seed: u64) -> usize {
+    let rng = &mut Prng::new(seed, 0xA_0000_0000);
+    let mut wrong = 0;
+    for _ in 0..2_000 {
+        let (gel, _) = random_gel(rng);
+        let found = import(&gel.bytes(), Rules::TRUE).map(|list| (list.rows, list.unread));
+        wrong += (found != list_of(&gel)) as usize;
+    }
+    for taxa in 8..=32 {
+        for clusters in 126..=131 {
+            let found = import(&crowd(rng, taxa, clusters).bytes(), Rules::TRUE);
+            let said = if clusters > CLUSTERS { Err(refuse(13)) } else { Ok(clusters) };
+            wrong += (found.map(|list| list.rows.len()) != said) as usize;
+        }
+    }
+    wrong
+}
+
+fn list_of(gel: &Gel) -> Result<(Vec<Row>, u64), Refusal> {
+    let (read, unread): (Vec<Column>, Vec<Column>) =
+        gel.columns.iter().partition(|c| c.unread == 0);
+    let mut clusters: Vec<u32> = read.iter().map(|c| c.ones).filter(|&c| c != 0).collect();
+    clusters.sort();
+    let run = |run: &[u32]| Row::scored(run[0], run.len() as i32);
+    let mut rows: Vec<Row> = clusters.chunk_by(|a, b| a == b).map(run).collect();
+    for added in (0..gel.taxa).map(|taxon| 1 << taxon).chain([first_taxa(gel.taxa)]) {
+        if rows.iter().all(|row| row.cluster != added) {
+            rows.push(Row::scored(added, 0));
+        }
+    }
+    if rows.len() > CLUSTERS {
+        return Err(refuse(13));
+    }
+    Ok((ascending(&rows), unread.len() as u64))
+}
+
+/// A spoiled line is refused as the line at fault, or the one after it where
+/// line 0 has only another length; and bytes that are no sheet are refused.
+fn faults_as_said(seed: u64) -> usize {
+    let rng = &mut Prng::new(seed, 0xB_0000_0000);
+    let mut wrong = 0;
+    for round in 0..300 {
+        // Run together with the next, line 0 is still good, and not the last.
+        let (taxa, columns) = (3 + round % 30, 2 + rng.below(60));
+        for (only_length, smudges) in [(false, &SEEN[..]), (true, &LENGTHS[..])] {
+            for (_, smudge) in smudges {
+                let at = rng.below(taxa);
+                let mut lines = mixed(rng, taxa, columns).lines();
+                smudge(&mut lines, at, rng);
+                let told = if only_length { at.max(1) } else { at };
+                let said = Refusal { number: 12, position: told as u64 };
+                wrong += (import(&lines.concat(), Rules::TRUE).err() != Some(said)) as usize;
+            }
+        }
+    }
+    let refused = |bytes: &[u8]| import(bytes, Rules::TRUE).err().map(|r| r.number);
+    wrong + no_sheets(rng).iter().filter(|(bytes, _)| refused(bytes) != Some(12)).count()
 }

@@ -1,7 +1,7 @@
 //! The cases that every run makes: the bench examples, each refusal and each
 //! pair, record edges, rooms around what is due, tables broken in each
-//! sentence, the most rescorings, and counts at the limit. From all sections
-//! of docs/RULES.md.
+//! sentence, the most rescorings, and counts at the limit; those of sheets
+//! are in a module of their own. From all sections of docs/RULES.md.
 
 use crate::answer::Origin;
 use crate::blocks::{Made, Top};
@@ -14,6 +14,7 @@ use crate::newick::{drawn_tree, text};
 use crate::prng::Prng;
 use crate::records::{Row, list_bytes, raw_bytes};
 use crate::refusals::{BAD_KINDS, bad_record_of, faulty, single_and_pairs};
+use crate::special_sheets::special_sheets;
 use crate::stream::Ask;
 use crate::table::Table;
 use crate::unbuilt::random_fit;
@@ -32,6 +33,7 @@ pub fn specials(rng: &mut Prng) -> Vec<Case> {
     most_rescorings(&mut all);
     refused_drawings(&mut all, rng);
     counts_at_limit(&mut all, rng);
+    special_sheets(&mut all, rng);
     all
 }
 

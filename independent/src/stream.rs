@@ -20,11 +20,15 @@ pub enum Ask {
     Text { table: Box<Table>, room: Vec<u8> },
     Line { d: u32, list: Vec<u8>, room: Vec<u8> },
     Whole { d: u32, list: Vec<u8>, edits: Vec<Edit> },
+    Import { sheet: Vec<u8>, room: Vec<u8> },
 }
 
-/// The names of the operations, 1 to 9 in order.
-pub const OPERATIONS: [&str; 9] =
-    ["read", "write", "build", "rescore", "fit", "tree", "text", "line", "whole"];
+/// The names of the operations, 1 to 10 in order.
+pub const OPERATIONS: [&str; 10] =
+    ["read", "write", "build", "rescore", "fit", "tree", "text", "line", "whole", "import"];
+
+/// How many they are. Case number N asks operation N mod this, plus 1.
+pub const KINDS: u64 = OPERATIONS.len() as u64;
 
 impl Ask {
     /// The operation's byte.
@@ -39,6 +43,7 @@ impl Ask {
             Ask::Text { .. } => 7,
             Ask::Line { .. } => 8,
             Ask::Whole { .. } => 9,
+            Ask::Import { .. } => 10,
         }
     }
 
@@ -75,6 +80,10 @@ impl Ask {
                 put_list(&mut out, *d, list);
                 put_edits(&mut out, edits);
             }
+            Ask::Import { sheet, room } => {
+                put_bytes(&mut out, sheet);
+                put_bytes(&mut out, room);
+            }
         }
         out
     }
@@ -104,6 +113,7 @@ impl Ask {
                 let (d, list) = (input.u32()?, input.bytes(4_096)?);
                 Some(Ask::Whole { d, list, edits: input.edits()? })
             }
+            10 => Some(Ask::Import { sheet: input.bytes(8_192)?, room: input.bytes(2_048)? }),
             _ => None,
         }
     }

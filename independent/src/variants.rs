@@ -1,4 +1,4 @@
-//! The eight mistakes that students make (docs/COMPARED.md), each of which can
+//! The ten mistakes that students make (docs/COMPARED.md), each of which can
 //! be switched on in the expected answers. A count at its limit has two sides
 //! and makes two of them. A comparison that is any good tells each of them
 //! from the truth.
@@ -13,9 +13,12 @@ pub enum Variant {
     ManyAtLimit,
     ManyTimesNone,
     OnlyEditedRow,
+    /// The number of `?` columns is still told.
+    UnreadAsZero,
+    EqualColumnsOnce,
 }
 
-pub const ALL: [Variant; 8] = [
+pub const ALL: [Variant; 10] = [
     Variant::UnscoredAsZero,
     Variant::Greedy,
     Variant::OneChildMore,
@@ -24,6 +27,8 @@ pub const ALL: [Variant; 8] = [
     Variant::ManyAtLimit,
     Variant::ManyTimesNone,
     Variant::OnlyEditedRow,
+    Variant::UnreadAsZero,
+    Variant::EqualColumnsOnce,
 ];
 
 impl Variant {
@@ -37,6 +42,8 @@ impl Variant {
             Variant::ManyAtLimit => "many-at-limit",
             Variant::ManyTimesNone => "many-times-none",
             Variant::OnlyEditedRow => "only-edited-row",
+            Variant::UnreadAsZero => "unread-as-zero",
+            Variant::EqualColumnsOnce => "equal-columns-once",
         }
     }
 
