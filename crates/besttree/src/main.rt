@@ -2,49 +2,9 @@
 // bounds 3, 4 and 5. What a line says is promised by the crate `report`. Where the input can't be read or the output can't be written, a
 // line on standard error says so, and the lines printed are those of the bytes that came.
 use answers::Answer;
+use input::read_input;
 use libc::STDERR_FILENO;
-use libc::STDIN_FILENO;
 use libc::STDOUT_FILENO;
-ghost use Rattle.io.specs.Counts.{Counts};
-
-// How many bytes came, and whether the input could be read.
-struct Input {
-    count: usize,
-    is_read: bool,
-}
-
-// One read, put at the start of `room`.
-fn read_some(room: &mut [u8]) -> Input
-    ensures { λ r. ⌜ Counts (r .count) (now (room .exit)) ⌝ }
-{
-    let got = libc::read(STDIN_FILENO, room);
-    Input {
-        count: io::count(got, room),
-        is_read: 0 <= got,
-    }
-}
-
-// A list, put at the start of `room`: reads are joined until the room is full, the input ends or a read fails.
-fn read_list(room: &mut [u8]) -> Input
-    ensures { λ r. ⌜ Counts (r .count) (now (room .exit)) ⌝ }
-{
-    let mut end = 0;
-    while end < room.len() {
-        let some = read_some(&mut room[end..]);
-        let count = some.count;
-        if count == 0 {
-            return Input {
-                count: end,
-                is_read: some.is_read,
-            };
-        }
-        end += count;
-    }
-    Input {
-        count: end,
-        is_read: true,
-    }
-}
 
 // Prints the line of one degree bound; false where it can't be written.
 fn print_line(list: &[u8], degree: u32) -> bool {
@@ -68,7 +28,7 @@ fn tell(text: &[u8]) {
 fn main() {
     // one byte more than the longest list, so that a longer one is seen
     let mut buffer = [0u8; 1537];
-    let list = read_list(&mut buffer);
+    let list = read_input(&mut buffer);
     let n = list.count;
     if !list.is_read {
         tell(b"besttree: standard input can't be read\n");

@@ -1,6 +1,6 @@
 -- ONE OUTCOME (RULES 12): for each public operation, what its `ensures` says, and that two outcomes which that allows are equal. An
 -- operation that writes into a room has its answer and every byte of the room for an outcome. Shown in `proofs/OneOutcome.antt`; the gate
--- holds each row against the source (`.ci/promises`).
+-- holds each row against the source (`.ci/promises`). `read_input` has no row: what it hands over is fixed by no argument.
 --     Only P          two values of which P holds are equal
 --     In o a          an answer with what it was given is the outcome o
 --     Imports o a     so for an import

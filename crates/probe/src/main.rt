@@ -2,12 +2,14 @@
 // format of docs/PROBE.md. A fault in the stream is answered by one line, and nothing after it is looked at. What an operation does is
 // proved in its own crate; here is proved that the probe is safe and ends. The cases of `stdin`, in order:
 //     1, 2      a record read, and one written into a longer room
-//     3 to 9    one of each other operation, on the house list (RULES 11)
-//     10        a case that the input cuts off
+//     3 to 9    the operations 3 to 9, on the house list (RULES 11)
+//     10        that list as a gel sheet, with a column more that has a ?, imported into a longer room
+//     11        a case that the input cuts off
 mod drawings;
 mod layout;
 mod numbers;
 mod records;
+mod sheets;
 mod stream;
 mod tables;
 
@@ -18,6 +20,7 @@ use drawings::answer_whole;
 use layout::read_table;
 use records::answer_read;
 use records::answer_write;
+use sheets::answer_sheet;
 use stream::fill;
 use stream::read_list;
 use stream::write;
@@ -66,6 +69,7 @@ fn answer_case(operation: u8) -> bool {
         2 => answer_write(),
         3 | 8 | 9 => answer_list(operation),
         4..=7 => answer_table(operation),
+        10 => answer_sheet(),
         _ => false,
     }
 }

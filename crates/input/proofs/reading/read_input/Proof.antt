@@ -1,5 +1,5 @@
--- `besttree::read_list` meets its contract: what came is within the room, whose bytes keep their number. The measure is the bytes that
--- still have room. Assumes nothing.
+-- `input::reading::read_input` meets its contract: what came is within the room, whose bytes keep their number. The measure is the bytes
+-- that still have room. Assumes nothing.
 use mathlib.Core.Path.{_≡_, refl, _∙_}
 use mathlib.Core.List.{List}
 use Prim.Native.Nat.{ℕ, _+_, _-_, _≤_}
@@ -9,8 +9,8 @@ use borrow.Author.Needs.{needs}
 use borrow.Rule.Slice.PartMut.{putMid, same-len-mid, mid-len}
 use lib.ListN.{length}
 use Rattle.io.proofs.Counting.{counts}
-use Rattle.besttree.proofs.read_list.Statement.{statement}
-use Rattle.besttree.proofs.read_list.Tie as tie
+use Rattle.input.proofs.reading.read_input.Statement.{statement}
+use Rattle.input.proofs.reading.read_input.Tie as tie
 
 abbrev Inv-loop : tie.InvT-loop
 Inv-loop room₀ end₀ room end = (end ≤ length room) × (length room ≡ length room₀)
@@ -63,8 +63,8 @@ loop-again c =
 returns-2 : tie.Need-returns-2 Inv-loop μ-loop
 returns-2 c = counts _ _ (c .before .loop .inv .0)
 
-pub read-list-spec : {M : Type 1} → statement M
-read-list-spec =
+pub read-input-spec : {M : Type 1} → statement M
+read-input-spec =
     tie.close
     (tie.spec
     Inv-loop
