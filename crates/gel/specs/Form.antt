@@ -3,11 +3,12 @@
 --     isLine s at w           w marks and the end of a line stand from a place on
 --     FirstWidth s w          the sheet starts with w marks, and no more
 --     Formed s n w            a sheet with no line at fault, its n lines of w marks, and where each mark stands
+--     faulty i                the form of a sheet whose first line at fault is i
 --     FormIs s f              f is the form of the sheet
 --     ColumnIs s j x          x is what column j stands for
 -- Assumes nothing.
 use mathlib.Core.Path.{_≡_}
-use mathlib.Core.Bool.{Bool, not, cond, _&&_}
+use mathlib.Core.Bool.{Bool, false, not, cond, _&&_}
 use mathlib.Core.List.{List}
 use Prim.Native.Nat.{ℕ, _+_, _-_, _*_, _≤_, _<_}
 use lib.Dec.{T, eqb}
@@ -17,6 +18,9 @@ use Rattle.gel.specs.declared.lines.Form.{Form}
 use Rattle.gel.specs.declared.columns.Column.{Column}
 use Rattle.gel.specs.Lines.{lineEnd, isMark, lineMax, widthMax, lineCount, widthOf, firstFault, isBadSheet}
 use Rattle.gel.specs.Columns.{markAt, columnAt, isUnread, clusterOf}
+
+abbrev pub faulty : ℕ → Form
+faulty i = record { lines = i; width = 0; «is_whole» = false }
 
 module _ (s : List ℕ) where
   abbrev pub marksEnd : ℕ → ℕ

@@ -3,14 +3,14 @@
 //     is_mark         a byte is 0, 1 or ?
 //     marks_end       where the marks from a place on end
 //     is_line         a line of so many marks starts at a place
-//     Form            how many lines a sheet has, and how long they are
+//     Form, at_fault  how many lines a sheet has, and how long they are; or which is at fault
 //     lines_of        the lines of a sheet whose line 0 has a width
 //     form_of         the form of a sheet, or the first line at fault
 ghost use mathlib.Core.Path.{_≡_};
 ghost use Prim.Native.Nat.{_≤_};
 ghost use lib.ListN.{length};
 ghost use Rattle.gel.specs.Lines.{isMark};
-ghost use Rattle.gel.specs.Form.{marksEnd, isLine, FirstWidth, FormIs};
+ghost use Rattle.gel.specs.Form.{marksEnd, isLine, FirstWidth, faulty, FormIs};
 
 // The marks of a sheet, and what ends a line.
 const NOUGHT: u8 = 48;
@@ -31,6 +31,17 @@ pub(crate) struct Form {
     pub(crate) lines: usize,
     pub(crate) width: usize,
     pub(crate) is_whole: bool,
+}
+
+// The form of a sheet whose first line at fault is this one.
+fn at_fault(line: usize) -> Form
+    ensures { λ r. ⌜ r ≡ faulty line ⌝ }
+{
+    Form {
+        lines: line,
+        width: 0,
+        is_whole: false,
+    }
 }
 
 // Whether a byte is a mark.
@@ -85,18 +96,10 @@ fn lines_of(sheet: &[u8], width: usize) -> Form
     let mut lines = 0;
     while at < sheet.len() {
         if lines == MOST_LINES {
-            return Form {
-                lines,
-                width,
-                is_whole: false,
-            };
+            return at_fault(MOST_LINES);
         }
         if !is_line(sheet, at, width) {
-            return Form {
-                lines,
-                width,
-                is_whole: false,
-            };
+            return at_fault(lines);
         }
         at += width + 1;
         lines += 1;
@@ -114,18 +117,10 @@ pub(crate) fn form_of(sheet: &[u8]) -> Form
 {
     let width = marks_end(sheet, 0);
     if width == 0 {
-        return Form {
-            lines: 0,
-            width,
-            is_whole: false,
-        };
+        return at_fault(0);
     }
     if MOST_COLUMNS < width {
-        return Form {
-            lines: 0,
-            width,
-            is_whole: false,
-        };
+        return at_fault(0);
     }
     lines_of(sheet, width)
 }

@@ -19,7 +19,7 @@ use Rattle.laws.proofs.Keep.{every→, →every}
 use Rattle.laws.proofs.Tests.{T-and, T-true, true-T, or-r}
 use Rattle.gel.specs.Lines.{isMark, lineMax, widthMax, Line, lineCount, lineAt, widthOf, isFault, firstFault, isBadSheet}
 use Rattle.gel.specs.Facts.{RightLine}
-use Rattle.gel.specs.Form.{marksEnd, isLine, FormIs}
+use Rattle.gel.specs.Form.{marksEnd, isLine, faulty, FormIs}
 use Rattle.gel.proofs.Laws.Lines.{lines-some, line-ended}
 
 -- five tests at once
@@ -32,9 +32,9 @@ none-of false false false true e h = absurd (true≢false h)
 none-of false false false false e h = (refl, refl, refl, refl, h)
 
 -- a sheet that has no bytes
-form-empty : (s : List ℕ) (w : ℕ) → length s ≡ 0 → FormIs s (record { lines = 0; width = w; «is_whole» = false })
-form-empty [] w e = record { whole = refl; fault = λ _. refl; formed = λ k. absurd k }
-form-empty (b ∷ s) w e = absurd (omega (arith, e))
+form-empty : (s : List ℕ) → length s ≡ 0 → FormIs s (faulty 0)
+form-empty [] e = record { whole = refl; fault = λ _. refl; formed = λ k. absurd k }
+form-empty (b ∷ s) e = absurd (omega (arith, e))
 
 module _ (s : List ℕ) where
   -- ---- faults
@@ -77,9 +77,9 @@ module _ (s : List ℕ) where
       (line-ended s at ends (subst (λ (x : Line). T (every isMark (x .bytes))) e (→every isMark (lineAt s i .bytes) (k .marks))))
 
   -- ---- a bad sheet
-  pub form-bad : (n w : ℕ) → n < lineCount s → (isFault s n ≡ false → ⊥) → ((i : ℕ) → i < n → isFault s i ≡ false)
-      → FormIs s (record { lines = n; width = w; «is_whole» = false })
-  form-bad n w h t f =
+  pub form-bad : (n : ℕ) → n < lineCount s → (isFault s n ≡ false → ⊥) → ((i : ℕ) → i < n → isFault s i ≡ false)
+      → FormIs s (faulty n)
+  form-bad n h t f =
       let told = not-eq-not {a = isFault s n} {b = true} .0 t in
       let first : firstFault s ≡ n = first-of (isFault s) 0 (lineCount s) n (omega arith) (omega arith) told (λ i _ k. f i k) in
       let below = lt→ltb (firstFault s) (lineCount s) (omega (arith, first)) in
@@ -93,10 +93,10 @@ module _ (s : List ℕ) where
       let e = right-line 0 0 refl h .0 in
       (omega (arith, e, k .some, k .long), omega (arith, e, k .most, k .long))
 
-  pub form-unmarked : (w : ℕ) → (1 ≤ marksEnd s 0 → marksEnd s 0 ≤ widthMax → ⊥)
-      → FormIs s (record { lines = 0; width = w; «is_whole» = false })
-  form-unmarked w f = go (decLe 1 (length s))
+  pub form-unmarked : (1 ≤ marksEnd s 0 → marksEnd s 0 ≤ widthMax → ⊥)
+      → FormIs s (faulty 0)
+  form-unmarked f = go (decLe 1 (length s))
     where
-      go : Dec (1 ≤ length s) → FormIs s (record { lines = 0; width = w; «is_whole» = false })
-      go (yes h) = form-bad 0 w (lines-some s h) (λ e. let q = marks-right e in f (q .0) (q .1)) (λ i k. absurd (omega arith))
-      go (no h) = form-empty s w (omega arith)
+      go : Dec (1 ≤ length s) → FormIs s (faulty 0)
+      go (yes h) = form-bad 0 (lines-some s h) (λ e. let q = marks-right e in f (q .0) (q .1)) (λ i k. absurd (omega arith))
+      go (no h) = form-empty s (omega arith)

@@ -21,7 +21,7 @@ use Rattle.laws.proofs.Keep.{every→}
 use Rattle.laws.proofs.First.{first-all}
 use Rattle.gel.specs.Lines.{isMark, lineMax, Line, noLine, lineCount, lineAt, widthOf, isFault, firstFault, isBadSheet}
 use Rattle.gel.specs.Columns.{markAt}
-use Rattle.gel.specs.Form.{marksEnd, isLine, FirstWidth, Formed, FormIs}
+use Rattle.gel.specs.Form.{marksEnd, isLine, FirstWidth, Formed, faulty, FormIs}
 use Rattle.gel.proofs.Laws.Faults.{fault→right, right→fault, right-line, form-bad}
 use Rattle.gel.proofs.Laws.Lines.{LineFrom, lines-some, marks-high, line-found}
 
@@ -115,8 +115,10 @@ module _ (s : List ℕ) where
           })
 
       -- ---- where the loop ends
-      pub lined-full : at < length s → n ≡ lineMax → FormIs s (record { lines = n; width = w; «is_whole» = false })
-      lined-full h e = form-bad s n w (next-counts h) (λ k. omega (arith, fault→right s n k .low, e)) clear
+      pub lined-full : at < length s → n ≡ lineMax → FormIs s (faulty lineMax)
+      lined-full h e =
+          subst (λ (i : ℕ). FormIs s (faulty i)) e
+          (form-bad s n (next-counts h) (λ k. omega (arith, fault→right s n k .low, e)) clear)
 
       -- a line that isn't at fault passes the test
       next-line : isFault s n ≡ false → isLine s at w ≡ true
@@ -132,8 +134,8 @@ module _ (s : List ℕ) where
               let start : at ≡ 0 = omega (arith, l .place, ap (λ (m : ℕ). m * (w + 1)) none) in
               omega (arith, head .first, ap (marksEnd s) start, q .0)
 
-      pub lined-stopped : at < length s → isLine s at w ≡ false → FormIs s (record { lines = n; width = w; «is_whole» = false })
-      lined-stopped h e = form-bad s n w (next-counts h) (λ k. true≢false (sym (next-line k) ∙ e)) clear
+      pub lined-stopped : at < length s → isLine s at w ≡ false → FormIs s (faulty n)
+      lined-stopped h e = form-bad s n (next-counts h) (λ k. true≢false (sym (next-line k) ∙ e)) clear
 
       module _ (done : length s ≤ at) where
         some-bytes : 1 ≤ length s

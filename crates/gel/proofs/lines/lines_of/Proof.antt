@@ -1,10 +1,13 @@
 -- `gel::lines::lines_of` meets its contract. The invariant: so many lines of `width` marks stand in front of `at`, and those from there on
 -- are the further ones (`LinedTo`). The measure is the bytes left. Assumes nothing.
+use borrow.Author.Needs.{needs}
+use mathlib.Core.Path.{sym, subst}
 use Prim.Native.Nat.{_-_}
 use native.Mathlib.Omega.{arith}
 use lib.ListN.{length}
 use denote.Ref.{now}
 use Rattle.laws.proofs.Tests.{passed, failed}
+use Rattle.gel.specs.Form.{FormIs}
 use Rattle.gel.proofs.Laws.Lines.{LineFrom, line-found}
 use Rattle.gel.proofs.Laws.Formed.{LinedTo, lined-none, lined-more, lined-full, lined-stopped, lined-ended}
 use Rattle.gel.proofs.lines.lines_of.Statement.{statement}
@@ -21,18 +24,22 @@ loop-holds c = lined-none _ _
 
 returns : tie.Need-returns Inv-loop μ-loop
 returns c =
-    let at-loop = c .before .before in
-    lined-full _ _ _ _ (at-loop .loop .inv) (at-loop .before .before .pre) (c .before .loop-test .taken) (c .if1 .taken)
+    let full = c .before in
+    let at-loop = full .before .before in
+    subst (FormIs _) (sym (c .at-fault .ensures))
+    (lined-full _ _ _ _ (at-loop .loop .inv) (at-loop .before .before .pre) (full .before .loop-test .taken) (full .if1 .taken))
 
 is-line-requires : tie.Need-is-line-requires Inv-loop μ-loop
 is-line-requires c κs = c .before .before .loop .inv .within
 
 returns-2 : tie.Need-returns-2 Inv-loop μ-loop
 returns-2 c =
-    let turn = c .before .before .before in
+    let stopped = c .before in
+    let turn = stopped .before .before .before in
     let at-loop = turn .before in
-    lined-stopped _ _ _ _ (at-loop .loop .inv) (at-loop .before .before .pre) (turn .loop-test .taken)
-    (failed (c .before .is-line .ensures) (c .if2 .taken))
+    subst (FormIs _) (sym (c .at-fault2 .ensures))
+    (lined-stopped _ _ _ _ (at-loop .loop .inv) (at-loop .before .before .pre) (turn .loop-test .taken)
+    (failed (stopped .before .is-line .ensures) (stopped .if2 .taken)))
 
 -- the line that is passed
 line : (c : tie.Else2 Inv-loop μ-loop)
@@ -61,8 +68,10 @@ lines-of-spec =
     Inv-loop
     μ-loop
     loop-holds
+    (λ c κs. search needs)
     returns
     is-line-requires
+    (λ c κs. search needs)
     returns-2
     (λ c. omega (arith, line c .within))
     (λ c. omega (arith, line c .within))
