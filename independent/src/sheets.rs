@@ -1,6 +1,6 @@
 //! Gel sheets, and the cluster lists that they become. A sheet has a line of
 //! `0`, `1` and `?` for each taxon from taxon 0, each with an LF at its end.
-//! Records and what is sent back are those of RULES 2 and 8.
+//! Records and what is sent back are those of RULES 2 and 13.
 //!
 //! Read from its last line up, a column is its cluster in binary digits; with
 //! a `?` in it, it is no such number. The clusters of a list are a set, and

@@ -1,7 +1,7 @@
 //! The cases of gel sheets that every run makes: sheets worked by hand, every
 //! size, the smallest sheets whole, columns of one kind throughout, lists at
 //! the limit, every fault at every place, several refusals at once, rooms
-//! around what is due, and every byte for a mark. From RULES 8.
+//! around what is due, and every byte for a mark. From RULES 13.
 
 use crate::answer::Origin;
 use crate::gels::{Column, Gel, crowd, mixed, unread_column};

@@ -1,5 +1,5 @@
 //! Small sheets and what becomes of them, worked out by hand: no program had
-//! a part in the lists. What is sent back is RULES 8.
+//! a part in the lists. What is sent back is RULES 13.
 
 use std::io;
 use std::path::Path;
