@@ -4,7 +4,7 @@
 //     Record                                      a record
 //     Rule, broken_rule, is_kept, is_score        the record rules
 //     Reading, read_record, write_record          twelve bytes to a record, and back
-//     RECORD_BYTES, WEIGHT_MAX                    how many bytes a record has, and the largest weight
+//     RECORD_BYTES, WEIGHT_MAX, SCORED            how many bytes a record has, the largest weight, and the state of a scored cluster
 // Passed on from the crate `taxa`:
 //     is_inside, is_strict, is_apart, size, is_single, highest, lowest     a cluster as a set of taxa
 mod bytes;
@@ -23,6 +23,7 @@ pub use rule::WEIGHT_MAX;
 pub use rule::broken_rule;
 pub use rule::is_kept;
 pub use rule::is_score;
+pub use state::SCORED;
 pub use state::is_scored;
 pub use taxa::highest;
 pub use taxa::is_apart;

@@ -1,5 +1,5 @@
 // The states of a record. Cites `specs/State.antt` of the crate `laws`.
-//     UNSCORED      the state of a cluster without a score
+//     UNSCORED, SCORED     the states of a cluster without a score, and with one
 //     is_scored     the state is that of a scored cluster
 //     is_state      the number is a state
 ghost use mathlib.Core.Path.{_≡_};
@@ -9,7 +9,7 @@ ghost use Rattle.laws.specs.State.{scored, isState};
 pub(crate) const UNSCORED: u8 = 0;
 
 // The state of a cluster with a score.
-const SCORED: u8 = 1;
+pub const SCORED: u8 = 1;
 
 // Whether the state is that of a scored cluster.
 pub fn is_scored(state: u8) -> bool

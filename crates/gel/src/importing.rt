@@ -10,6 +10,7 @@ use answers::Answer;
 use answers::Refusal;
 use cluster::RECORD_BYTES;
 use cluster::Record;
+use cluster::SCORED;
 use cluster::write_record;
 ghost use mathlib.Core.Path.{_≡_};
 ghost use Prim.Native.Nat.{_*_, _≤_};
@@ -24,9 +25,6 @@ ghost use Rattle.gel.specs.Tally.{Key, Keys, rowOfKey, rowsFrom};
 
 // The most records of a list.
 const MOST_RECORDS: usize = 128;
-
-// The state of a scored cluster.
-const SCORED: u8 = 1;
 
 // What importing a sheet gives: the answer tells how many records were written, and `unread` how many columns have a ?; 0 where the
 // answer is a refusal.
