@@ -36,12 +36,13 @@ impl Generator {
         Generator { seed, special }
     }
 
-    pub fn case(&self, number: u64) -> Case {
+    /// Case `number`, at its first drawing or at a later one.
+    pub fn case(&self, number: u64, drawing: u64) -> Case {
         let operation = (number % KINDS) as usize;
         if let Some(case) = self.special[operation].get((number / KINDS) as usize) {
             return case.clone();
         }
-        let rng = &mut Prng::new(self.seed, number);
+        let rng = &mut Prng::new(self.seed, number + (drawing << 40));
         match operation + 1 {
             1 => read_case(rng),
             2 => write_case(rng),

@@ -13,6 +13,7 @@ use crate::answer::{Oracle, Origin, is_built};
 use crate::cases::Generator;
 use crate::given::Case;
 use crate::malformed;
+use crate::rules::OverBudget;
 use crate::stream::{Ask, Input, KINDS, OPERATIONS, TABLE_BYTES};
 use crate::variants::Variant;
 
@@ -55,16 +56,26 @@ impl Outcome {
 /// A case on its way: its number, and the answer that is expected.
 struct Pending {
     number: u64,
+    case: Case,
     expected: Vec<u8>,
 }
 
 /// The expected answer under a variant; where a mistake makes too many trees
 /// to try, the true answer stands in and the case simply doesn't tell.
-pub fn expected(case: &Case, variant: Option<Variant>) -> Vec<u8> {
+pub fn expected(case: &Case, variant: Option<Variant>) -> Result<Vec<u8>, OverBudget> {
     let wrong = Oracle::with(variant).answer(&case.ask, &case.origin);
-    wrong.unwrap_or_else(|_| {
-        Oracle::TRUE.answer(&case.ask, &case.origin).expect("a generated list is tried in time")
-    })
+    wrong.or_else(|_| Oracle::TRUE.answer(&case.ask, &case.origin))
+}
+
+/// Case `number` with its expected answer. Rescorings can leave more trees
+/// than can be tried: such a case is drawn again.
+pub fn tried(generator: &Generator, number: u64, variant: Option<Variant>) -> (Case, Vec<u8>) {
+    (0..)
+        .find_map(|drawing| {
+            let case = generator.case(number, drawing);
+            expected(&case, variant).ok().map(|answer| (case, answer))
+        })
+        .expect("one drawing or another is tried in time")
 }
 
 /// `count` cases of each operation.
@@ -77,12 +88,12 @@ pub fn run(seed: u64, count: u64, probe: &Path, variant: Option<Variant>) -> io:
         let mut pending = Vec::new();
         let answers = converse(probe, |send| {
             for number in from * KINDS..to * KINDS {
-                let case = generator.case(number);
+                let (case, expected) = tried(&generator, number, variant);
                 send(case.ask.encode());
-                pending.push(Pending { number, expected: expected(&case, variant) });
+                pending.push(Pending { number, case, expected });
             }
         })?;
-        judge_all(&mut outcome, seed, &generator, &pending, &answers)?;
+        judge_all(&mut outcome, seed, &pending, &answers)?;
         from = to;
     }
     malformed_streams(&mut outcome, seed, probe)?;
@@ -125,7 +136,6 @@ pub fn converse(probe: &Path, speak: impl FnOnce(&mut dyn FnMut(Vec<u8>))) -> io
 fn judge_all(
     outcome: &mut Outcome,
     seed: u64,
-    generator: &Generator,
     pending: &[Pending],
     answers: &[u8],
 ) -> io::Result<()> {
@@ -139,7 +149,7 @@ fn judge_all(
             outcome.differed[operation] += 1;
             outcome.shown += 1;
             if outcome.shown <= SHOWN {
-                show(seed, p.number, &generator.case(p.number), &p.expected, actual)?;
+                show(seed, p.number, &p.case, &p.expected, actual)?;
             }
         }
         at += p.expected.len();

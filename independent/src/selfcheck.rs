@@ -9,7 +9,7 @@ use crate::answer::{Method, Oracle, Origin};
 use crate::blocks::{Top, full_block, full_width_top};
 use crate::broken::{BREAKS, EDGES};
 use crate::cases::Generator;
-use crate::compare::expected;
+use crate::compare::{expected, tried};
 use crate::coverage::Coverage;
 use crate::gels::{Column, Gel, crowd, mixed, random_gel};
 use crate::limits::{CHAINS, PAIRS, pair_list, random_made};
@@ -50,13 +50,12 @@ fn variants_show(seed: u64, count: u64) -> bool {
     let mut coverage = Coverage::default();
     let formulas = Oracle { method: Method::Formulas, ..Oracle::TRUE };
     for number in 0..count * KINDS {
-        let case = generator.case(number);
-        let truth = expected(&case, None);
+        let (case, truth) = tried(&generator, number, None);
         coverage.note(&case.ask, &truth);
         let other = formulas.answer(&case.ask, &Origin::default());
         formulas_differ += (other.ok().as_ref() != Some(&truth)) as u64;
         for (i, &variant) in ALL.iter().enumerate() {
-            let wrong = expected(&case, Some(variant)) != truth;
+            let wrong = expected(&case, Some(variant)).ok().as_ref() != Some(&truth);
             differ[i][(number % KINDS) as usize] += wrong as u64;
         }
     }
