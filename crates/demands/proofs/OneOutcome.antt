@@ -76,4 +76,5 @@ one-outcome = record {
   «sheet_line» = λ a m. value-only;
   «ladlepine_build» = λ l d. value-only;
   «ladlepine_rescore» = λ l d c z s times. value-only;
+  «ladlepine_import» = λ s room. value-only;
 }

@@ -51,6 +51,7 @@ use Rattle.drawing.specs.Draw.{drawTree, drawnText, drawnTextOf, drawText}
 use Rattle.report.specs.Line.{lineInto}
 use Rattle.report.specs.Sheet.{sheetLine}
 use Rattle.digests.specs.Digest.{digest, rescoredTimes}
+use Rattle.digests.specs.Told.{toldOf}
 
 module _ {A : Type 0} where
   abbrev pub Only : (A → Type 0) → Type 0
@@ -123,3 +124,4 @@ pub record OneOutcome : Type 0 where
   pub «ladlepine_build» : (list : List ℕ) (degree : ℕ) → Only (λ (r : ℕ). r ≡ digest (buildTable narrow list degree .given))
   pub «ladlepine_rescore» : (list : List ℕ) (degree cluster : ℕ) (weight : ℤ) (state times : ℕ)
       → Only (λ (r : ℕ). r ≡ digest (rescoredTimes times cluster weight state (buildTable narrow list degree .given)))
+  pub «ladlepine_import» : (sheet room : List ℕ) → Only (λ (r : ℕ × List ℕ). r ≡ toldOf (importSheet sheet room))

@@ -1,7 +1,10 @@
-// Thin functions for programs in other languages, to measure with: a table is too large to hand over, so each hands back a digest of it.
-// Cites `specs/Digest.antt`.
+// Thin functions for programs in other languages, to measure with: a table is too large to hand over, so a digest of it is handed back; a
+// room is the caller's, and its records are told. Cites `specs/Digest.antt` and `specs/Told.antt`.
 //     ladlepine_build       the digest of a built table
 //     ladlepine_rescore     the digest of a built table after a number of rescorings of one cluster
+//     ladlepine_import      how many records importing a gel sheet writes into a room
+use answers::Answer;
+use gel::import_sheet;
 use signed::unsigned_long_of;
 use std::num::wrapping_add_u64;
 use table::build;
@@ -9,7 +12,9 @@ use table::rescore;
 ghost use mathlib.Core.Path.{_≡_};
 ghost use Rattle.laws.specs.Limits.{narrow, rowCap};
 ghost use Rattle.table.specs.Build.{buildTable};
+ghost use Rattle.gel.specs.Import.{importSheet};
 ghost use Rattle.digests.specs.Digest.{rowDigest, results, Full, digestTo, digest, rescoredTimes};
+ghost use Rattle.digests.specs.Told.{toldOf};
 
 // How many rows a table has room for.
 const ROW_CAP: usize = 128;
@@ -92,4 +97,17 @@ pub extern "C" fn ladlepine_rescore(
         &t.members_low,
         &t.members_high,
     )
+}
+
+// The records of the clusters of `sheet`, written at the start of `room`, and how many they are; 0 where the sheet is refused.
+#[no_mangle]
+pub extern "C" fn ladlepine_import(sheet: &[u8], room: &mut [u8]) -> u64
+    ensures { λ n. ⌜ (n, now (room .exit)) ≡ toldOf (importSheet (now (sheet .entry)) (now (room .entry))) ⌝ }
+{
+    let import = import_sheet(sheet, room);
+    let answer = import.answer;
+    match answer {
+        Answer::Done(rows) => rows as u64,
+        Answer::Refused(_) => 0,
+    }
 }
