@@ -28,3 +28,12 @@ uint64_t baseline_digest(const Table &table);
 
 // The tuples of all rows.
 uint64_t baseline_tuples(const Table &table);
+
+// What an import gives beside the records in the room: the first line at fault where that is the refusal, else how many records were
+// written, and how many columns have a ?.
+struct Import {
+    size_t line, told, unread;
+};
+
+// The refusal's number, 0 where the sheet is imported.
+int baseline_import(const uint8_t *sheet, size_t bytes, uint8_t *room, size_t room_bytes, Import &import);
