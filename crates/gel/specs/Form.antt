@@ -1,4 +1,5 @@
 -- What the private functions that take a sheet apart cite.
+--     isBit b                 the byte is 0 or 1
 --     marksEnd s at           where the marks from a place on end
 --     isLine s at w           w marks and the end of a line stand from a place on
 --     FirstWidth s w          the sheet starts with w marks, and no more
@@ -8,7 +9,7 @@
 --     ColumnIs s j x          x is what column j stands for
 -- Assumes nothing.
 use mathlib.Core.Path.{_≡_}
-use mathlib.Core.Bool.{Bool, false, not, cond, _&&_}
+use mathlib.Core.Bool.{Bool, false, not, cond, _&&_, _||_}
 use mathlib.Core.List.{List}
 use Prim.Native.Nat.{ℕ, _+_, _-_, _*_, _≤_, _<_}
 use lib.Dec.{T, eqb}
@@ -16,8 +17,11 @@ use lib.ListN.{length, getD}
 use Rattle.laws.specs.Orders.{firstFrom}
 use Rattle.gel.specs.declared.lines.Form.{Form}
 use Rattle.gel.specs.declared.columns.Column.{Column}
-use Rattle.gel.specs.Lines.{lineEnd, isMark, lineMax, widthMax, lineCount, widthOf, firstFault, isBadSheet}
+use Rattle.gel.specs.Lines.{lineEnd, nought, one, isMark, lineMax, widthMax, lineCount, widthOf, firstFault, isBadSheet}
 use Rattle.gel.specs.Columns.{markAt, columnAt, isUnread, clusterOf}
+
+abbrev pub isBit : ℕ → Bool
+isBit b = eqb b nought || eqb b one
 
 abbrev pub faulty : ℕ → Form
 faulty i = record { lines = i; width = 0; «is_whole» = false }
@@ -43,6 +47,7 @@ module _ (s : List ℕ) where
     pub wide : 1 ≤ w
     pub narrow : w ≤ widthMax
     pub marks : (i j : ℕ) → i < n → j < w → getD s (i * (w + 1) + j) 0 ≡ markAt s i j
+    pub marked : (i j : ℕ) → i < n → j < w → T (isMark (markAt s i j))
 
   pub record FormIs (f : Form) : Type 0 where
     pub whole : f .«is_whole» ≡ not (isBadSheet s)

@@ -1,15 +1,15 @@
 // A column of a gel sheet. Cites `specs/Columns.antt` and `specs/Form.antt`.
 //     Column        what a column stands for
-//     taxon_in      a taxon where its line has a 1
+//     one_in        what a mark counts
 //     column_at     one column of a sheet
-use crate::lines::ONE;
+use crate::lines::NOUGHT;
 use crate::lines::UNREAD;
 ghost use mathlib.Core.Path.{_≡_};
 ghost use Prim.Native.Nat.{_<_};
-ghost use lib.Dec.{eqb};
+ghost use lib.Dec.{T, eqb};
 ghost use mathlib.Core.Bool.{cond};
 ghost use Rattle.gel.specs.Lines.{one};
-ghost use Rattle.gel.specs.Form.{Formed, ColumnIs};
+ghost use Rattle.gel.specs.Form.{isBit, Formed, ColumnIs};
 
 // The cluster of a column's ones, and 0; where it has a ?, no cluster, and 1.
 pub(crate) struct Column {
@@ -17,26 +17,25 @@ pub(crate) struct Column {
     pub(crate) unread: usize,
 }
 
-// A taxon where its line has a 1, else none.
-fn taxon_in(mark: u8, taxon: u64) -> u64
-    ensures { λ r. ⌜ r ≡ cond (eqb mark one) taxon 0 ⌝ }
+// A 1 counts one, a 0 nothing.
+fn one_in(mark: u8) -> u64
+    requires { ⌜ T (isBit mark) ⌝ }
+    ensures { λ r. ⌜ r ≡ cond (eqb mark one) 1 0 ⌝ }
 {
-    if mark == ONE {
-        return taxon;
-    }
-    0
+    mark as u64 - NOUGHT as u64
 }
 
-// Column `j` of a sheet of so many lines of one width.
+// Column `j` of a sheet of so many lines of one width. It is read from the last line up: each line doubles the cluster of those beneath
+// it, and no taxon is kept beside it.
 pub(crate) fn column_at(sheet: &[u8], lines: usize, width: usize, j: usize) -> Column
     requires { ⌜ Formed (now sheet) lines width × (j < width) ⌝ }
     ensures { λ r. ⌜ ColumnIs (now (sheet .entry)) j r ⌝ }
 {
     let mut cluster = 0;
-    let mut taxon = 1;
-    let mut at = j;
-    let mut i = 0;
-    while i < lines {
+    let mut at = lines * (width + 1) + j;
+    let mut i = lines;
+    while 0 < i {
+        at -= width + 1;
         let mark = sheet[at];
         if mark == UNREAD {
             return Column {
@@ -44,10 +43,8 @@ pub(crate) fn column_at(sheet: &[u8], lines: usize, width: usize, j: usize) -> C
                 unread: 1,
             };
         }
-        cluster += taxon_in(mark, taxon);
-        taxon *= 2;
-        at += width + 1;
-        i += 1;
+        cluster = 2 * cluster + one_in(mark);
+        i -= 1;
     }
     Column { cluster, unread: 0 }
 }

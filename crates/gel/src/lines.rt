@@ -1,5 +1,5 @@
 // The lines of a gel sheet, and the first at fault. Cites `specs/Lines.antt` and `specs/Form.antt`.
-//     ONE, UNREAD     two of the marks
+//     NOUGHT, UNREAD  two of the marks
 //     is_mark         a byte is 0, 1 or ?
 //     marks_end       where the marks from a place on end
 //     is_line         a line of so many marks starts at a place
@@ -13,9 +13,9 @@ ghost use Rattle.gel.specs.Lines.{isMark};
 ghost use Rattle.gel.specs.Form.{marksEnd, isLine, FirstWidth, faulty, FormIs};
 
 // The marks of a sheet, and what ends a line.
-const NOUGHT: u8 = 48;
+pub(crate) const NOUGHT: u8 = 48;
 
-pub(crate) const ONE: u8 = 49;
+const ONE: u8 = 49;
 
 pub(crate) const UNREAD: u8 = 63;
 

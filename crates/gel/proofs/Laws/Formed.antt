@@ -23,7 +23,7 @@ use Rattle.gel.specs.Lines.{isMark, lineMax, Line, noLine, lineCount, li
 use Rattle.gel.specs.Columns.{markAt}
 use Rattle.gel.specs.Form.{marksEnd, isLine, FirstWidth, Formed, faulty, FormIs}
 use Rattle.gel.proofs.Laws.Faults.{fault→right, right→fault, right-line, form-bad}
-use Rattle.gel.proofs.Laws.Lines.{LineFrom, lines-some, marks-high, line-found}
+use Rattle.gel.proofs.Laws.Lines.{every→at, LineFrom, lines-some, marks-high, line-found}
 
 module _ (s : List ℕ) where
   pub record WholeLine (w i p : ℕ) : Type 0 where
@@ -91,6 +91,9 @@ module _ (s : List ℕ) where
         ap (λ (y : Line). length (y .bytes)) (x .line)
         ∙ length-take-le w (drop (i * (w + 1)) s) (omega (arith, length-drop (i * (w + 1)) s, x .within))
 
+    whole-marks : (i : ℕ) → i < n → T (every isMark (lineAt s i .bytes))
+    whole-marks i h = let x = l .whole i h in subst (λ (y : Line). T (every isMark (y .bytes))) (sym (x .line)) (x .marks)
+
     -- there is one, where the place isn't the start
     some-line : 1 ≤ at → 1 ≤ n
     some-line h = go (decLe 1 n)
@@ -106,7 +109,7 @@ module _ (s : List ℕ) where
           let long = long-is i h in
           let first = long-is 0 (omega arith) in
           right→fault s i (record {
-            marks = every→ isMark (lineAt s i .bytes) (subst (λ (y : Line). T (every isMark (y .bytes))) (sym (x .line)) (x .marks));
+            marks = every→ isMark (lineAt s i .bytes) (whole-marks i h);
             long = omega (arith, long, first);
             some = omega (arith, long, head .some);
             most = omega (arith, long, head .most);
@@ -159,6 +162,9 @@ module _ (s : List ℕ) where
             ∙ sym (getD-take w (drop p s) j 0 k)
             ∙ ap (λ (y : Line). getD (y .bytes) j 0) (sym (l .whole i h .line))
 
+        mark-told : (i j : ℕ) → i < n → j < w → T (isMark (markAt s i j))
+        mark-told i j h k = every→at isMark (lineAt s i .bytes) (whole-marks i h) j (omega (arith, long-is i h, k))
+
         formed : Formed s n w
         formed = record {
           lines = all-lines;
@@ -169,6 +175,7 @@ module _ (s : List ℕ) where
           wide = head .some;
           narrow = head .most;
           marks = mark-is;
+          marked = mark-told;
         }
 
         pub lined-ended : FormIs s (record { lines = n; width = w; «is_whole» = true })

@@ -1,4 +1,5 @@
 -- The lines of a sheet, and where its marks end: `specs/Lines.antt` and the first part of `specs/Form.antt`.
+--     every→at          a test that all pass, at a place
 --     lines-some        bytes are a line at least
 --     marks-low, marks-high     where the marks end lies between their start and the end of the sheet
 --     line-other, line-open, line-told     what a place's marks end with, as the code finds out
@@ -26,7 +27,7 @@ use Rattle.gel.specs.Form.{marksEnd, isLine}
 
 -- ---- a test of bytes, by places
 
-every→at : (p : ℕ → Bool) (l : List ℕ) → T (every p l) → (j : ℕ) → j < length l → T (p (getD l j 0))
+pub every→at : (p : ℕ → Bool) (l : List ℕ) → T (every p l) → (j : ℕ) → j < length l → T (p (getD l j 0))
 every→at p [] h j k = absurd (omega arith)
 every→at p (b ∷ l) h zero k = T-and (p b) (every p l) h .0
 every→at p (b ∷ l) h (suc j) k = every→at p l (T-and (p b) (every p l) h .1) j (omega arith)
