@@ -31,6 +31,7 @@ use Rattle.lists.specs.Accepted.{Accepted}
 use Rattle.lists.proofs.Theorems.{accepted-iff}
 use Rattle.gel.specs.Columns.{sheetRows}
 use Rattle.gel.specs.Import.{imported, notImported, importReasons, importSheet}
+use Rattle.gel.proofs.MadeLists.{counted-clusters}
 use Rattle.kept.specs.declared.table.Table.{Table}
 use Rattle.kept.specs.View.{rowAt, clustersDown, tableOf, zeroTable}
 use Rattle.kept.specs.Facts.{FitTable}
@@ -247,6 +248,7 @@ demand1 = record {
   shape-only = shape-only;
   text-is = text-is;
   import-sheet = import-answered;
+  clusters = counted-clusters;
   put = answered-given;
   line = line-answered;
   line-refused = line-refused;

@@ -45,7 +45,7 @@ use Rattle.lists.specs.Listing.{listed, readList}
 use Rattle.lists.specs.Accepted.{Bytes, Accepted, HasCluster}
 use Rattle.gel.specs.Lines.{widthOf}
 use Rattle.gel.specs.Columns.{columnsWith, sheetRows}
-use Rattle.gel.specs.Facts.{IsRead, GivenBy, AreLines, SheetRow, Numbered}
+use Rattle.gel.specs.Facts.{IsRead, GivenBy, AreLines, SheetCluster, SheetRow, Numbered}
 use Rattle.gel.specs.Import.{imported, notImported, importSheet}
 use Rattle.kept.specs.declared.table.Table.{Table}
 use Rattle.kept.specs.View.{rowAt, resultAt, entryAt, tableOf, zeroTable}
@@ -112,9 +112,10 @@ pub record Demand1 : Type 0 where
   pub text-shape : (t : Table) → MayBeDrawn narrow t → (s : Shape) × ShapeOf (membersOf t) s
   pub shape-only : (t : Table) → MayBeDrawn narrow t → (s u : Shape) → ShapeOf (membersOf t) s → ShapeOf (membersOf t) u → s ≡ u
   pub text-is : (t : Table) → MayBeDrawn narrow t → (s : Shape) → ShapeOf (membersOf t) s → leafText t ≡ textBytes s
-  -- gel sheets and rooms; what the list is is said below
+  -- gel sheets and rooms; how many clusters there are, which may be too many; what else the list is is said below
   pub import-sheet : (s room : List ℕ)
       → Answered (importSheet s room) (sheetRefusals s room) (TakenSheet s room) (length (sheetRows s)) (imported s room) (notImported room)
+  pub clusters : (s : List ℕ) → Numbered (SheetCluster s) (length (sheetRows s))
   -- bytes and rooms
   pub put : (out room : List ℕ)
       → Answered (written [] out room) (roomRefusals out room) (length out ≤ length room) (length out) (putInto out room) room

@@ -1,12 +1,13 @@
 -- When each refusal is given (RULES 8): for every operation the refusals that it tests, in their order, in the words of the rules; and
 -- what a success asks, which is that none of them applies.
 --     KeepsRecord r          a record keeps the record rules
+--     TakenSheet s room      a gel sheet without faults, with few clusters, and room for its list
 --     HasRow t c             the cluster c has a row in the table t
 --     HasTree t              the leaf set has a row, and its count isn't zero
 --     MarksTree W t          the rows marked in the leaf set's row are a tree on the leaf set of that row's best weight
 --     MayBeDrawn W t         the table is fit, and both
---     readRefusals, writeRefusals, listRefusals, buildRefusals, rescoreRefusals, drawRefusals, roomRefusals     what each operation sends
---                            back, and when; of a drawing and of a room with what is tested after
+--     readRefusals, writeRefusals, listRefusals, buildRefusals, sheetRefusals, rescoreRefusals, drawRefusals, roomRefusals     what each
+--                            operation sends back, and when; of a drawing and of a room with what is tested after
 -- Assumes nothing.
 use mathlib.Core.Path.{_≡_}
 use mathlib.Core.Logic.{_≢_}

@@ -1,5 +1,5 @@
 -- The list that is made of a gel sheet, in words (RULES 13).
---     cluster-iff         its clusters are those of columns, of each line and of all lines
+--     cluster-iff, counted-clusters     its clusters are those of columns, of each line and of all lines; so many records are they
 --     row-iff             its rows are these, with the number of their columns, scored
 --     counted-columns, counted-unread (Laws/Numbered.antt)     these numbers, in words
 --     made-back, made-bytes, made-accepted     its rows are read back, it is bytes, and it is accepted
@@ -13,19 +13,21 @@ use mathlib.Core.List.{List, _++_, map, Memᴰ·map, Memᴰ·of-map, Memᴰ·app
 use mathlib.Core.List.{List·Memᴰ as Mem, List·Memᴰ·head as here, List·Memᴰ·tail as there}
 use Prim.Native.Nat.{ℕ, _^_, _≤_, _<_}
 use native.Mathlib.Omega.{arith}
-use lib.Dec.{T, eqb, T-not, not-T, eqb→eq}
+use lib.Dec.{T, eqb, T-not, not-T}
 use lib.IntN.{ℤ, pos}
-use lib.ListN.{length}
+use lib.ListN.{length, length-map}
 use Rattle.laws.specs.Cluster.{inside, taxa, unionOf}
 use Rattle.laws.specs.Limits.{narrow}
 use Rattle.laws.specs.Lists.{keep}
 use Rattle.laws.specs.Orders.{Falling, downTo}
 use Rattle.laws.specs.Row.{Row}
-use Rattle.laws.specs.State.{scored}
+use Rattle.laws.specs.State.{scoredState}
 use Rattle.laws.proofs.Cluster.{→inside, inside-of-has, has-of-inside, inside-antisym, inside-unionOf, unionOf-inside}
 use Rattle.laws.proofs.Digits.{pow-has}
 use Rattle.laws.proofs.Down.{mem-down, down-mem, down-map, falling-down}
 use Rattle.laws.proofs.Keep.{mem-keep, mem-of-keep}
+use Rattle.laws.proofs.Falling.{falling-once}
+use Rattle.laws.proofs.State.{scored-state, scored-is}
 use Rattle.laws.proofs.Taxa.{taxa-mem, mem-taxa}
 use Rattle.laws.proofs.Tests.{neq→, →neq}
 use Rattle.laws.proofs.Width.{narrow-facts}
@@ -34,13 +36,12 @@ use Rattle.lists.specs.Records.{recordsIn, listedAt, rowsOf}
 use Rattle.lists.specs.Accepted.{Bytes, Accepted}
 use Rattle.lists.proofs.Laws.Written.{written-records, written-down, written-bytes, written-rows, written-accepted}
 use Rattle.gel.specs.Lines.{lineCount, widthOf}
-use Rattle.gel.specs.Columns.{isUnread, clusterOf, allOf, columnAt, columnsOf, scoresOf}
+use Rattle.gel.specs.Columns.{isUnread, clusterOf, allOf, allLines, columnAt, columnsOf, scoresOf}
 use Rattle.gel.specs.Columns.{sheetClusters, columnsWith, rowOfCluster, sheetRows, sheetBytes}
-use Rattle.gel.specs.Facts.{OnesOf, GivenBy, IsGiven, IsLine, AreLines, SheetCluster, SheetRow}
-use Rattle.gel.proofs.Laws.Gathered.{mem-gathered, mem-of-gathered}
+use Rattle.gel.specs.Facts.{OnesOf, GivenBy, IsGiven, OneLine, AreLines, SheetCluster, SheetRow, Numbered}
+use Rattle.gel.proofs.Laws.Gathered.{mem-gathered, mem-of-gathered, gathered-falls}
 use Rattle.gel.proofs.Laws.Made.{Sized, made-rules, made-clusters, made-falls, made-some}
 use Rattle.gel.proofs.Laws.Ones.{ones-iff, ones-only, read-iff, all-iff, all-only}
-use Rattle.gel.proofs.Laws.Held.{allLines}
 
 module _ (s : List ℕ) where
   abbrev candidates : List ℕ
@@ -79,7 +80,7 @@ module _ (s : List ℕ) where
   pub cluster-iff : (c : ℕ) → Mem c (sheetClusters s) ↔ SheetCluster s c
   cluster-iff c = (λ m. to (List·Memᴰ·append-cases (scoresOf s) (mem-of-gathered candidates m)), λ k. mem-gathered candidates (from k))
     where
-      line : Mem c (allLines (lineCount s)) → IsLine s c ⊎ AreLines s c
+      line : Mem c (allLines (lineCount s)) → OneLine s c ⊎ AreLines s c
       line (here e) = inr (subst (AreLines s) (sym e) (all-iff s))
       line (there m) = let q = mem-taxa (lineCount s) c m in inl q
 
@@ -94,21 +95,28 @@ module _ (s : List ℕ) where
           (there (subst (λ (x : ℕ). Mem x (taxa (lineCount s))) (sym (q .2)) (taxa-mem (lineCount s) (q .0) (q .1))))
       from (inr (inr a)) = Memᴰ·append-right (scoresOf s) (here (all-only s c a))
 
+  pub counted-clusters : Numbered (SheetCluster s) (length (sheetRows s))
+  counted-clusters = record {
+    numbers = sheetClusters s;
+    once = falling-once (sheetClusters s) (gathered-falls candidates);
+    each = cluster-iff;
+    many = length-map (sheetClusters s) (rowOfCluster s);
+  }
+
   pub row-iff : (r : Row) → Mem r (sheetRows s) ↔ SheetRow s r
-  unfolding scored
   row-iff r = (to, from)
     where
       to : Mem r (sheetRows s) → SheetRow s r
       to m =
           let q = Memᴰ·of-map (rowOfCluster s) (sheetClusters s) m in
-          subst (SheetRow s) (q .2) (record { cluster = cluster-iff (q .0) .0 (q .1); weight = refl; scored = tt })
+          subst (SheetRow s) (q .2) (record { cluster = cluster-iff (q .0) .0 (q .1); weight = refl; scored = scored-state })
 
       from : SheetRow s r → Mem r (sheetRows s)
       from k =
-          subst (λ (x : Row). Mem x (sheetRows s)) (same (k .weight) (eqb→eq (r .state) 1 (k .scored)))
+          subst (λ (x : Row). Mem x (sheetRows s)) (same (k .weight) (scored-is (r .state) (k .scored)))
           (Memᴰ·map (rowOfCluster s) (cluster-iff (r .cluster) .1 (k .cluster)))
         where
-          same : r .weight ≡ pos (columnsWith s (r .cluster)) → r .state ≡ 1 → rowOfCluster s (r .cluster) ≡ r
+          same : r .weight ≡ pos (columnsWith s (r .cluster)) → r .state ≡ scoredState → rowOfCluster s (r .cluster) ≡ r
           same w e = ap₂ (λ (z : ℤ) (n : ℕ). record { cluster = r .cluster; weight = z; state = n }) (sym w) (sym e)
 
   module _ (z : Sized s) where

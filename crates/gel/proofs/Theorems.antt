@@ -11,7 +11,7 @@ use mathlib.Core.List.{List, [], _∷_}
 use Prim.Native.Nat.{ℕ, _≤_, _<_}
 use native.Mathlib.Decide.{decLe}
 use native.Mathlib.Omega.{arith}
-use lib.Dec.{T, eqb, ltb, eqb→eq, ltb→lt, lt→ltb}
+use lib.Dec.{T, eqb, ltb, eqb→eq, ltb→lt, lt→ltb, nltb→le, not-T}
 use lib.ListN.{length}
 use Rattle.laws.specs.Limits.{narrow}
 use Rattle.laws.proofs.First.{found-iff, unfound-iff}
@@ -81,11 +81,7 @@ module _ (s : List ℕ) where
   many-iff = (ltb→lt (narrow .rows) (length (sheetRows s)), lt→ltb (narrow .rows) (length (sheetRows s)))
 
   not-below : (a b : ℕ) → (T (ltb a b) → ⊥) ↔ (b ≤ a)
-  not-below a b = (λ n. go n (decLe b a), λ h t. omega (arith, h, ltb→lt a b t))
-    where
-      go : (T (ltb a b) → ⊥) → Dec (b ≤ a) → b ≤ a
-      go n (yes h) = h
-      go n (no h) = absurd (n (lt→ltb a b (omega (arith, h))))
+  not-below a b = (λ n. nltb→le a b (not-T (ltb a b) n), λ h t. omega (arith, h, ltb→lt a b t))
 
   pub taken-iff : (room : List ℕ)
       → NoneApplies (importReasons s room)

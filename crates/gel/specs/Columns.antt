@@ -6,8 +6,9 @@
 --     columnsOf s           all columns, the last first
 --     unreadColumns s       how many have a ?
 --     scoresIn xs, scoresOf s     the clusters of the columns without ?, all-zero ones left out; those of a sheet
---     allOf n               the cluster of n lines
---     gathered cs           numbers in descending order, each once
+--     timesIn c cs          how often a number stands in a list
+--     allOf, allLines n     the cluster of n lines; the clusters that every sheet of n lines has
+--     above a b, gathered cs     a is the larger; numbers in descending order, each once
 --     sheetClusters s       the clusters of the list: of these columns, of each line and of all lines
 --     columnsWith s c       the weight of a cluster: how many columns without ? have it
 --     rowOfCluster s c      its row, which is scored
@@ -25,6 +26,7 @@ use Rattle.laws.specs.Limits.{narrow}
 use Rattle.laws.specs.Lists.{keep, elem}
 use Rattle.laws.specs.Orders.{downTo, insertBy}
 use Rattle.laws.specs.Row.{Row}
+use Rattle.laws.specs.State.{scoredState}
 use Rattle.lists.specs.Accepted.{bytesOfRows}
 use Rattle.gel.specs.Lines.{one, unread, lineCount, lineAt, widthOf}
 
@@ -49,8 +51,16 @@ abbrev pub gathered : List ℕ → List ℕ
 gathered [] = []
 gathered (c ∷ cs) = cond (elem c cs) (gathered cs) (insertBy above c (gathered cs))
 
+abbrev pub timesIn : ℕ → List ℕ → ℕ
+timesIn c cs = length (keep (eqb c) cs)
+
+-- ---- clusters of lines
+
 abbrev pub allOf : ℕ → ℕ
 allOf n = 2 ^ n - 1
+
+abbrev pub allLines : ℕ → List ℕ
+allLines n = allOf n ∷ taxa n
 
 module _ (s : List ℕ) where
   abbrev pub markAt : ℕ → ℕ → ℕ
@@ -70,14 +80,13 @@ module _ (s : List ℕ) where
 
   -- ---- the list
   abbrev pub sheetClusters : List ℕ
-  sheetClusters = gathered (scoresOf ++ (allOf (lineCount s) ∷ taxa (lineCount s)))
+  sheetClusters = gathered (scoresOf ++ allLines (lineCount s))
 
   abbrev pub columnsWith : ℕ → ℕ
-  columnsWith c = length (keep (eqb c) scoresOf)
+  columnsWith c = timesIn c scoresOf
 
-  -- scored
   abbrev pub rowOfCluster : ℕ → Row
-  rowOfCluster c = record { cluster = c; weight = pos (columnsWith c); state = 1 }
+  rowOfCluster c = record { cluster = c; weight = pos (columnsWith c); state = scoredState }
 
   abbrev pub sheetRows : List Row
   sheetRows = map rowOfCluster sheetClusters

@@ -8,7 +8,7 @@
 --     OnesOf s j c        the taxa of the cluster c are the lines that have a 1 in column j
 --     GivenBy s j c       column j gives the cluster c: it has no ?, and c is the cluster of its ones
 --     IsGiven s c         a column gives it, and it isn't all-zero
---     IsLine, AreLines s c     it is the cluster of one line; of all lines
+--     OneLine, AreLines s c     it is the cluster of one line; of all lines
 --     SheetCluster s c    it is a cluster of the list
 --     SheetRow s r        r is a row of the list: such a cluster, with the number of its columns, scored
 --     Numbered P n        n numbers have the property P
@@ -69,14 +69,14 @@ module _ (s : List ℕ) where
   abbrev pub IsGiven : ℕ → Type 0
   IsGiven c = (c ≢ 0) × (j : ℕ) × GivenBy j c
 
-  abbrev pub IsLine : ℕ → Type 0
-  IsLine c = (i : ℕ) × (i < lineCount s) × (c ≡ 2 ^ i)
+  abbrev pub OneLine : ℕ → Type 0
+  OneLine c = (i : ℕ) × (i < lineCount s) × (c ≡ 2 ^ i)
 
   abbrev pub AreLines : ℕ → Type 0
   AreLines c = (i : ℕ) → T (inside (2 ^ i) c) ↔ (i < lineCount s)
 
   abbrev pub SheetCluster : ℕ → Type 0
-  SheetCluster c = IsGiven c ⊎ IsLine c ⊎ AreLines c
+  SheetCluster c = IsGiven c ⊎ OneLine c ⊎ AreLines c
 
   pub record SheetRow (r : Row) : Type 0 where
     pub cluster : SheetCluster (r .cluster)

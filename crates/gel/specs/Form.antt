@@ -6,6 +6,7 @@
 --     Formed s n w            a sheet with no line at fault, its n lines of w marks, and where each mark stands
 --     faulty i                the form of a sheet whose first line at fault is i
 --     FormIs s f              f is the form of the sheet
+--     given x                 what a column stands for: its cluster, none where it has a ?
 --     ColumnIs s j x          x is what column j stands for
 -- Assumes nothing.
 use mathlib.Core.Path.{_≡_}
@@ -22,6 +23,9 @@ use Rattle.gel.specs.Columns.{markAt, columnAt, isUnread, clusterOf}
 
 abbrev pub isBit : ℕ → Bool
 isBit b = eqb b nought || eqb b one
+
+abbrev pub given : List ℕ → ℕ
+given x = cond (isUnread x) 0 (clusterOf x)
 
 abbrev pub faulty : ℕ → Form
 faulty i = record { lines = i; width = 0; «is_whole» = false }
@@ -56,4 +60,4 @@ module _ (s : List ℕ) where
 
   pub record ColumnIs (j : ℕ) (x : Column) : Type 0 where
     pub unread : x .unread ≡ cond (isUnread (columnAt s j)) 1 0
-    pub cluster : x .cluster ≡ cond (isUnread (columnAt s j)) 0 (clusterOf (columnAt s j))
+    pub cluster : x .cluster ≡ given (columnAt s j)

@@ -3,8 +3,8 @@
 --     isMark b            the byte is 0, 1 or ?
 --     lineMax, widthMax   how many lines a sheet may have, and how many marks a line
 --     Line                a line: its bytes, and whether LF ends it
---     linesOf s           the lines of a sheet; bytes after the last LF are a line that has no end
---     lineAt, widthOf s   line i, counted from 0; the length of line 0
+--     inFront, linesOf s  a byte in front of the first line; the lines of a sheet: bytes after the last LF are a line that has no end
+--     lineCount, lineAt, noLine, widthOf s     how many lines; line i, counted from 0, which is empty where there is none; the length of line 0
 --     isFault s i         line i is at fault
 --     firstFault s        the first line at fault; the number of lines where none is
 --     isBadSheet s        the sheet has no bytes, or a line at fault

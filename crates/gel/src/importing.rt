@@ -1,5 +1,5 @@
 // A gel sheet imported. Cites `specs/Import.antt` and `specs/Tally.antt`.
-//     Import           what importing a sheet gives
+//     Import, refused  what importing a sheet gives, and a refused one
 //     record_of        the record of a key
 //     put_rows         the records of a tally, written into a room
 //     import_sheet     a sheet to the list of its clusters

@@ -1,15 +1,16 @@
 -- The ways in which `import_sheet` returns, from what its parts promise.
 --     ends-bad, ends-many, ends-short, ends-done     a line at fault, too many clusters, too short a room, and the list
 -- Assumes nothing.
-use mathlib.Core.Path.{_≡_, refl, sym, ap, ap₂, _∙_, subst}
-use mathlib.Core.Bool.{Bool, true, false, not}
+use mathlib.Core.Path.{_≡_, sym, ap, ap₂, _∙_, subst}
+use mathlib.Core.Bool.{true, false}
 use mathlib.Core.List.{List}
+use borrow.Author.Tests.{not-false}
 use Prim.Native.Nat.{ℕ, _*_, _≤_, _<_}
-use lib.Dec.{T}
+use lib.Dec.{T, T-not}
 use lib.ListN.{length}
 use Rattle.laws.specs.Limits.{narrow}
 use Rattle.laws.specs.Row.{Row}
-use Rattle.laws.proofs.Tests.{true-T}
+use Rattle.laws.proofs.Tests.{T-false, true-T}
 use Rattle.answers.specs.declared.refusal.Answer.{Answer}
 use Rattle.answers.specs.declared.refusal.Answer.the-variants.{Done, Refused}
 use Rattle.answers.specs.declared.refusal.Refusal.{Refusal}
@@ -38,22 +39,14 @@ module _ (s room : List ℕ) (f : Form) (form : FormIs s f) where
 
   pub ends-bad : f .«is_whole» ≡ false → (r : Import) → IsRefused r (BadSheet (f .lines)) → importOf r room ≡ importSheet s room
   ends-bad e r told =
-      let bad : isBadSheet s ≡ true = flip (isBadSheet s) (sym (form .whole) ∙ e) in
+      let bad : isBadSheet s ≡ true = not-false (isBadSheet s) (sym (form .whole) ∙ e) in
       refused-is r (BadSheet (f .lines)) told
       ∙ ap (λ (i : ℕ). outcomeOf (Refused (BadSheet i)) (notImported room)) (form .fault (true-T bad))
       ∙ sym (import-bad s room bad)
-    where
-      flip : (b : Bool) → not b ≡ false → b ≡ true
-      flip true h = refl
-      flip false h = sym h
 
   module _ (whole : T (f .«is_whole»)) (t : Tally) (tally : TallyIs s t) where
     good : isBadSheet s ≡ false
-    good = flip (isBadSheet s) (subst T (form .whole) whole)
-      where
-        flip : (b : Bool) → T (not b) → b ≡ false
-        flip true h = absurd h
-        flip false h = refl
+    good = T-false (isBadSheet s) (T-not (isBadSheet s) (subst T (form .whole) whole))
 
     sized : Sized s
     sized = sized-of s (f .lines) (f .width) (form .formed whole)

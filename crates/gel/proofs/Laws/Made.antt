@@ -3,8 +3,7 @@
 --     sized-of                  a sheet without faults is such
 --     scores-few                no more columns than that are counted
 --     made-cluster              a cluster of the list has a taxon, and none past 31
---     made-row, mem-made        the row of a cluster, and the cluster of a row
---     made-clusters, made-falls the clusters of the rows, in order
+--     made-clusters, made-falls, made-length     the clusters of the rows, in order, and how many
 --     made-rules, made-some     the rows keep the record rules, and there is one
 --     tally-length, tally-rows, tally-keys     the keys of a sheet are those of its rows, and can be written
 -- Assumes nothing.
@@ -33,14 +32,13 @@ use Rattle.trees.specs.Rows.{clustersOf}
 use Rattle.cluster.specs.Rule.{keepsRules}
 use Rattle.gel.specs.declared.tally.Tally.{Tally}
 use Rattle.gel.specs.Lines.{lineMax, widthMax, lineCount, widthOf}
-use Rattle.gel.specs.Columns.{isUnread, clusterOf, allOf, markAt, columnAt, columnsOf}
+use Rattle.gel.specs.Columns.{isUnread, clusterOf, allOf, allLines, markAt, columnAt, columnsOf}
 use Rattle.gel.specs.Columns.{scoresOf, sheetClusters, rowOfCluster, sheetRows}
 use Rattle.gel.specs.Form.{Formed}
 use Rattle.gel.specs.Tally.{keyUnit, keyAt, keyFor, TallyIs, Key, Keys, rowOfKey, rowsFrom}
 use Rattle.gel.proofs.Laws.Columns.{cluster-lt}
 use Rattle.gel.proofs.Laws.Counted.{count-le, key-cluster, key-count}
 use Rattle.gel.proofs.Laws.Gathered.{mem-gathered, mem-of-gathered, gathered-falls}
-use Rattle.gel.proofs.Laws.Held.{allLines}
 use Rattle.gel.proofs.Laws.Tallied.{scores-length-le}
 use Rattle.gel.proofs.Laws.Writing.{rowOfKey-rules}
 

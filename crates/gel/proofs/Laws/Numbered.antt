@@ -19,16 +19,17 @@ use Rattle.laws.proofs.Once.{once-keep}
 use Rattle.laws.proofs.Tests.{eq→eqb, T-false, T-dec, cond-true, cond-false}
 use Rattle.gel.specs.Lines.{one, lineCount, widthOf}
 use Rattle.gel.specs.Columns.{isUnread, clusterOf, scoresIn, markAt, columnAt, unreadColumns, columnsWith}
+use Rattle.gel.specs.Form.{given}
 use Rattle.gel.specs.Facts.{IsRead, GivenBy, Numbered}
 use Rattle.gel.proofs.Laws.Ones.{ones-iff, ones-only, read-iff}
-use Rattle.gel.proofs.Laws.Tallied.{given, scores-more}
+use Rattle.gel.proofs.Laws.Tallied.{scores-more}
 
 -- the places below n that pass a test
 module _ (p : ℕ → Bool) (n : ℕ) where
-  pub places-once : Once (keep p (places n))
+  places-once : Once (keep p (places n))
   places-once = once-keep p (places n) (falling-once (places n) (down-falling (λ (i : ℕ). i) n (λ j k h _. h)))
 
-  pub places-iff : (j : ℕ) → Mem j (keep p (places n)) ↔ ((j < n) × T (p j))
+  places-iff : (j : ℕ) → Mem j (keep p (places n)) ↔ ((j < n) × T (p j))
   places-iff j = (
     λ m.
         let q = mem-of-keep p (places n) m in
