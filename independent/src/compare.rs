@@ -22,6 +22,8 @@ use crate::variants::Variant;
 const ROUNDS: u64 = 4_000;
 /// Differences printed in full, with their files written.
 const SHOWN: usize = 20;
+/// Drawings of one case, at most.
+const DRAWINGS: u64 = 64;
 
 #[derive(Default)]
 pub struct Outcome {
@@ -68,14 +70,15 @@ pub fn expected(case: &Case, variant: Option<Variant>) -> Result<Vec<u8>, OverBu
 }
 
 /// Case `number` with its expected answer. Rescorings can leave more trees
-/// than can be tried: such a case is drawn again.
+/// than can be tried: such a case is drawn again. If no drawing will do, the
+/// run stops.
 pub fn tried(generator: &Generator, number: u64, variant: Option<Variant>) -> (Case, Vec<u8>) {
-    (0..)
+    (0..DRAWINGS)
         .find_map(|drawing| {
             let case = generator.case(number, drawing);
             expected(&case, variant).ok().map(|answer| (case, answer))
         })
-        .expect("one drawing or another is tried in time")
+        .unwrap_or_else(|| panic!("case {number}: none of {DRAWINGS} drawings is tried in time"))
 }
 
 /// `count` cases of each operation.

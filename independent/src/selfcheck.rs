@@ -3,7 +3,7 @@
 //! And the program against itself: trying sets against the formulas, lists
 //! from parts against plain trying, found sets against the rule of a tree,
 //! sheets against the columns that they were made of, and those worked by hand.
-//! Checks the readings of RULES 3 to 8.
+//! Checks the readings of RULES 3 to 7 and 13.
 
 use crate::answer::{Method, Oracle, Origin};
 use crate::blocks::{Top, full_block, full_width_top};

@@ -1,5 +1,5 @@
 -- Texts in the making. Laws: `proofs/Laws.antt`.
---     textCap            the bytes that a text has room for: as many as the longest line has that the program prints
+--     textCap            the bytes that a text has room for: as many as the longest line has that `besttree` prints
 --     holding l          the text of the bytes l, and zeros behind them
 --     longer t l         the bytes of t, then those of l; what stands behind them is as it was
 --     withBytes t l      the bytes of t, then as many of l as there is room for

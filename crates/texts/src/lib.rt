@@ -1,5 +1,5 @@
 // Texts in the making: bytes and numbers in decimal, added one after another, and bytes put into a room. A text has room for the longest
-// line that the program prints; what there is no room for is left out, so that no byte that is added is refused. Nothing public has a
+// line that `besttree` prints; what there is no room for is left out, so that no byte that is added is refused. Nothing public has a
 // `requires`, and each `ensures` is one equation to a definition of `specs/`.
 //     Text            bytes, and how many of them there are
 //     empty           a text of no bytes
