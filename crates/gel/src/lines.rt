@@ -2,12 +2,14 @@
 //     NOUGHT, UNREAD  two of the marks
 //     is_mark         a byte is 0, 1 or ?
 //     marks_end       where the marks from a place on end
+//     are_marks       the bytes between two places are marks
 //     is_line         a line of so many marks starts at a place
 //     Form, at_fault  how many lines a sheet has, and how long they are; or which is at fault
 //     lines_of        the lines of a sheet whose line 0 has a width
 //     form_of         the form of a sheet, or the first line at fault
 ghost use mathlib.Core.Path.{_≡_};
 ghost use Prim.Native.Nat.{_≤_};
+ghost use lib.Dec.{leb};
 ghost use lib.ListN.{length};
 ghost use Rattle.gel.specs.Lines.{isMark};
 ghost use Rattle.gel.specs.Form.{marksEnd, isLine, FirstWidth, faulty, FormIs};
@@ -72,16 +74,31 @@ fn marks_end(sheet: &[u8], at: usize) -> usize
     i
 }
 
+// Whether the bytes from `at` up to `end` are marks. All are looked at, whatever is found: with no second way out of the loop, many bytes
+// are tested at once.
+fn are_marks(sheet: &[u8], at: usize, end: usize) -> bool
+    requires { ⌜ (at ≤ end) × (end ≤ length (now sheet)) ⌝ }
+    ensures { λ b. ⌜ b ≡ leb end (marksEnd (now (sheet .entry)) at) ⌝ }
+{
+    let mut whole = true;
+    let mut i = at;
+    while i < end {
+        whole = whole & is_mark(sheet[i]);
+        i += 1;
+    }
+    whole
+}
+
 // Whether `width` marks and the end of a line stand from `at` on.
 fn is_line(sheet: &[u8], at: usize, width: usize) -> bool
     requires { ⌜ at ≤ length (now sheet) ⌝ }
     ensures { λ b. ⌜ b ≡ isLine (now (sheet .entry)) at width ⌝ }
 {
-    let end = marks_end(sheet, at);
-    if end - at != width {
+    if sheet.len() - at <= width {
         return false;
     }
-    if end == sheet.len() {
+    let end = at + width;
+    if !are_marks(sheet, at, end) {
         return false;
     }
     sheet[end] == LINE_END

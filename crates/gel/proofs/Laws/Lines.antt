@@ -1,27 +1,28 @@
 -- The lines of a sheet, and where its marks end: `specs/Lines.antt` and the first part of `specs/Form.antt`.
 --     every→at          a test that all pass, at a place
 --     lines-some        bytes are a line at least
---     marks-low, marks-high     where the marks end lies between their start and the end of the sheet
---     line-other, line-open, line-told     what a place's marks end with, as the code finds out
+--     marks-high        where the marks end lies no further than the end of the sheet
+--     marks-none, marks-more     whether the marks from a place on reach another, one byte further at a time
+--     line-short, line-broken, line-whole     the test of a line, as the code finds out
 --     LineFrom s at w   a line of w marks starts at a place, and the lines of what follows it are the further ones
 --     line-found        where the test passes
 --     line-ended        where the first line from a place on has marks alone and LF, its marks end at its LF, and the test passes
 -- Assumes nothing.
 use mathlib.Core.Path.{_≡_, refl, sym, ap, ap₂, _∙_, subst}
 use mathlib.Core.Logic.{_≢_}
-use mathlib.Core.Bool.{Bool, true, false, not, cond, true≢false}
+use mathlib.Core.Bool.{Bool, true, false, not, cond, true≢false, _&&_}
 use mathlib.Core.List.{List, [], _∷_, _++_}
 use Prim.Native.Nat.{ℕ, zero, suc, _+_, _-_, _≤_, _<_}
-use borrow.Author.Tests.{eqb-true, eq-eqb, ne-eqb, not-false}
+use borrow.Author.Tests.{eqb-true, eq-eqb, ne-eqb, not-true, not-false}
 use native.Mathlib.Decide.{decLe}
 use native.Mathlib.Numerals.{add-one}
 use native.Mathlib.Omega.{arith}
-use lib.Dec.{T, eqb, eqb→eq}
+use lib.Dec.{T, eqb, leb, eqb→eq, leb→le, le→leb}
 use lib.ListN.{length, getD, take, drop, length-append, length-drop, List·getD-eq-default, List·getD-append}
 use lib.Seq.{split-at, length-take-le, getD-append-seam, getD-take, getD-drop, drop-drop}
 use Rattle.laws.specs.Lists.{every}
-use Rattle.laws.proofs.First.{first-low, first-high, first-before, first-of}
-use Rattle.laws.proofs.Tests.{T-and, and-T, T-true, true-T}
+use Rattle.laws.proofs.First.{first-low, first-high, first-before, first-at, first-of}
+use Rattle.laws.proofs.Tests.{T-and, and-T, T-true, true-T, bool-ext}
 use Rattle.gel.specs.Lines.{lineEnd, isMark, Line, noLine, inFront, linesOf, lineCount, lineAt}
 use Rattle.gel.specs.Form.{marksEnd, isLine}
 
@@ -78,7 +79,7 @@ line-apart (b ∷ r) h = go (eqb b lineEnd) refl (linesOf r) (line-apart r) h
 
 module _ (s : List ℕ) (at : ℕ) where
   -- ---- where marks end
-  pub marks-low : at ≤ marksEnd s at
+  marks-low : at ≤ marksEnd s at
   marks-low = first-low (λ i. not (isMark (getD s i 0))) at (length s - at)
 
   pub marks-high : at ≤ length s → marksEnd s at ≤ length s
@@ -87,19 +88,78 @@ module _ (s : List ℕ) (at : ℕ) where
   marks-mark : (j : ℕ) → at ≤ j → j < marksEnd s at → T (isMark (getD s j 0))
   marks-mark j h k = true-T (not-false (isMark (getD s j 0)) (first-before (λ i. not (isMark (getD s i 0))) at (length s - at) j h k))
 
+  marks-stopped : marksEnd s at < length s → at ≤ length s → isMark (getD s (marksEnd s at) 0) ≡ false
+  marks-stopped h k = not-true _ (first-at (λ i. not (isMark (getD s i 0))) at (length s - at) (omega arith))
+
+  -- ---- whether they reach a place
+  pub marks-none : true ≡ leb at (marksEnd s at)
+  marks-none = sym (T-true (leb at (marksEnd s at)) (le→leb at (marksEnd s at) marks-low))
+
+  pub marks-more : (i : ℕ) → at ≤ i → i < length s → (leb i (marksEnd s at) && isMark (getD s i 0)) ≡ leb (i + 1) (marksEnd s at)
+  marks-more i h k = bool-ext (leb i (marksEnd s at) && isMark (getD s i 0)) (leb (i + 1) (marksEnd s at)) to from
+    where
+      to : T (leb i (marksEnd s at) && isMark (getD s i 0)) → T (leb (i + 1) (marksEnd s at))
+      to t = go (decLe (i + 1) (marksEnd s at))
+        where
+          tests : T (leb i (marksEnd s at)) × T (isMark (getD s i 0))
+          tests = T-and (leb i (marksEnd s at)) (isMark (getD s i 0)) t
+
+          go : Dec (i + 1 ≤ marksEnd s at) → T (leb (i + 1) (marksEnd s at))
+          go (yes a) = le→leb (i + 1) (marksEnd s at) a
+          go (no a) =
+              let here : marksEnd s at ≡ i = omega (arith, leb→le i (marksEnd s at) (tests .0)) in
+              let stopped = ap (λ (n : ℕ). isMark (getD s n 0)) (sym here) ∙ marks-stopped (omega arith) (omega arith) in
+              absurd (subst T stopped (tests .1))
+
+      from : T (leb (i + 1) (marksEnd s at)) → T (leb i (marksEnd s at) && isMark (getD s i 0))
+      from t =
+          let a = leb→le (i + 1) (marksEnd s at) t in
+          and-T (leb i (marksEnd s at)) (isMark (getD s i 0)) (le→leb i (marksEnd s at) (omega arith)) (marks-mark i h (omega arith))
+
   -- ---- the test of a line, as the code comes to it
-  pub line-other : (w : ℕ) → marksEnd s at - at ≢ w → isLine s at w ≡ false
+  line-other : (w : ℕ) → marksEnd s at - at ≢ w → isLine s at w ≡ false
   line-other w h = rw (ne-eqb (marksEnd s at - at) w h)
 
   -- the end of the sheet isn't LF
   open-end : length s ≤ marksEnd s at → eqb (getD s (marksEnd s at) 0) lineEnd ≡ false
   open-end h = ap (λ (b : ℕ). eqb b lineEnd) (List·getD-eq-default s 0 h)
 
-  pub line-open : (w : ℕ) → marksEnd s at - at ≡ w → marksEnd s at ≡ length s → isLine s at w ≡ false
+  line-open : (w : ℕ) → marksEnd s at - at ≡ w → marksEnd s at ≡ length s → isLine s at w ≡ false
   line-open w e h = rw (eq-eqb (marksEnd s at - at) w e, open-end (omega arith))
 
-  pub line-told : (w : ℕ) → marksEnd s at - at ≡ w → isLine s at w ≡ eqb (getD s (marksEnd s at) 0) lineEnd
+  line-told : (w : ℕ) → marksEnd s at - at ≡ w → isLine s at w ≡ eqb (getD s (marksEnd s at) 0) lineEnd
   line-told w e = rw (eq-eqb (marksEnd s at - at) w e)
+
+  -- the sheet ends before a line could
+  pub line-short : (w : ℕ) → at ≤ length s → length s - at ≤ w → isLine s at w ≡ false
+  line-short w h k = go (decLe w (marksEnd s at - at))
+    where
+      go : Dec (w ≤ marksEnd s at - at) → isLine s at w ≡ false
+      go (yes a) =
+          let high = marks-high h in
+          line-open w (omega (arith, high)) (omega (arith, high, marks-low))
+      go (no a) = line-other w (λ (e : marksEnd s at - at ≡ w). omega arith)
+
+  -- a byte on the way is no mark
+  pub line-broken : (w : ℕ) → leb (at + w) (marksEnd s at) ≡ false → isLine s at w ≡ false
+  line-broken w h =
+      line-other w
+      (λ (e : marksEnd s at - at ≡ w). subst T h (le→leb (at + w) (marksEnd s at) (omega (arith, marks-low, e))))
+
+  -- all are marks, and the byte behind them tells
+  pub line-whole : (w : ℕ) → leb (at + w) (marksEnd s at) ≡ true → eqb (getD s (at + w) 0) lineEnd ≡ isLine s at w
+  line-whole w h = go (decLe (marksEnd s at) (at + w))
+    where
+      reach : at + w ≤ marksEnd s at
+      reach = leb→le (at + w) (marksEnd s at) (true-T h)
+
+      go : Dec (marksEnd s at ≤ at + w) → eqb (getD s (at + w) 0) lineEnd ≡ isLine s at w
+      go (yes a) =
+          let here : at + w ≡ marksEnd s at = omega (arith, reach) in
+          ap (λ (i : ℕ). eqb (getD s i 0) lineEnd) here ∙ sym (line-told w (omega (arith, here)))
+      go (no a) =
+          mark-inside (getD s (at + w) 0) (marks-mark (at + w) (omega arith) (omega arith))
+          ∙ sym (line-other w (λ (e : marksEnd s at - at ≡ w). omega (arith, e)))
 
   -- ---- a line
   pub record LineFrom (w : ℕ) : Type 0 where
