@@ -13,8 +13,6 @@ use lib.IntN.{ℤ}
 use lib.ListN.{length, getD}
 use Rattle.laws.specs.Cluster.{inside, size}
 use Rattle.laws.specs.Limits.{narrow, isDegree}
-use Rattle.laws.proofs.Cluster.{inside-trans, inside-unionOf, taxon-of-unionOf}
-use Rattle.laws.proofs.Down.{mem-down, down-mem}
 use Rattle.laws.proofs.Width.{narrow-facts}
 use Rattle.answers.specs.declared.refusal.Refusal.{Refusal}
 use Rattle.answers.specs.Refusal.{Sent}
@@ -36,7 +34,7 @@ use Rattle.kept.specs.declared.table.Table.{Table}
 use Rattle.kept.specs.View.{rowAt, clustersDown, tableOf, zeroTable}
 use Rattle.kept.specs.Facts.{FitTable}
 use Rattle.kept.specs.Rows.{shownRows, leafSet}
-use Rattle.kept.proofs.Laws.Rows.{place-at, place-none, place-iff}
+use Rattle.kept.proofs.Laws.Rows.{place-at, place-none, place-iff, leafSet-iff}
 use Rattle.trees.specs.Built.{builtTable}
 use Rattle.shapes.specs.Shape.{Shape}
 use Rattle.shapes.specs.Text.{textBytes}
@@ -103,25 +101,6 @@ import-answered s room =
     (importing-none s room)
 
 -- ---- tables
-
-module _ (t : Table) where
-  abbrev shown : ℕ
-  shown = shownRows t
-
-  taxon-iff : (x : ℕ) → T (inside (2 ^ x) (leafSet t)) ↔ ((i : ℕ) × (i < shown) × T (inside (2 ^ x) (rowAt t i .cluster)))
-  taxon-iff x = (to, from)
-    where
-      to : T (inside (2 ^ x) (leafSet t)) → (i : ℕ) × (i < shown) × T (inside (2 ^ x) (rowAt t i .cluster))
-      to h =
-          let q = taxon-of-unionOf (clustersDown (t .clusters) shown) x h in
-          let p = mem-down (λ (i : ℕ). getD (t .clusters) i 0) shown (q .0) (q .1) in
-          (p .0, p .1, subst (λ (c : ℕ). T (inside (2 ^ x) c)) (p .2) (q .2))
-
-      from : (i : ℕ) × (i < shown) × T (inside (2 ^ x) (rowAt t i .cluster)) → T (inside (2 ^ x) (leafSet t))
-      from q =
-          let m = down-mem (λ (i : ℕ). getD (t .clusters) i 0) shown (q .0) (q .1) in
-          let c = rowAt t (q .0) .cluster in
-          inside-trans (2 ^ x) c (leafSet t) (q .2) (inside-unionOf (clustersDown (t .clusters) shown) c m)
 
 rescore-answered : (t : Table) (c : ℕ) (z : ℤ) (s : ℕ)
     → Answered (rescoreTable narrow t c z s) (rescoreRefusals narrow t c z s) (FitTable narrow t × HasRow t c × KeepsScore z s) 0
@@ -238,7 +217,7 @@ demand1 = record {
   place-of = place-iff;
   place-at = place-at;
   place-none = place-none;
-  leaf-set = taxon-iff;
+  leaf-set = leafSet-iff;
   rescore = rescore-answered;
   drawn-tree = drawn-tree-answered;
   drawn-text = drawn-text-answered;

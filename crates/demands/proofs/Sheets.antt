@@ -8,11 +8,10 @@ use Prim.Native.Nat.{ℕ, _*_, _<_}
 use lib.Dec.{T}
 use lib.ListN.{length, take, drop}
 use lib.Seq.{take-at}
-use Rattle.laws.specs.Cluster.{unionOf}
 use Rattle.laws.specs.Limits.{narrow, isDegree}
 use Rattle.laws.specs.Row.{Row}
 use Rattle.answers.specs.Refusal.{Sent}
-use Rattle.trees.specs.Rows.{clustersOf}
+use Rattle.trees.specs.Rows.{leaves}
 use Rattle.cluster.specs.Record.{recordBytes}
 use Rattle.lists.specs.Records.{recordsIn, listedAt}
 use Rattle.gel.specs.Lines.{lineCount, widthOf}
@@ -90,4 +89,4 @@ module _ (s room : List ℕ) where
       where
         leaves-are : leafSetOf narrow (madeList s room) ≡ allOf (lineCount s)
         leaves-are =
-            ap (leafSetOf narrow) list-is ∙ ap (λ (rs : List Row). unionOf (clustersOf rs)) (made-back s sized) ∙ made-leaves s sized
+            ap (leafSetOf narrow) list-is ∙ ap leaves (made-back s sized) ∙ made-leaves s sized

@@ -24,7 +24,7 @@ use lib.IntN.{ℤ}
 use lib.ListN.{length, take, drop}
 use Rattle.laws.specs.Cluster.{inside}
 use Rattle.laws.specs.Limits.{Width, narrow, isDegree, rowCap}
-use Rattle.laws.specs.Row.{Row}
+use Rattle.laws.specs.Row.{Row, isScored}
 use Rattle.trees.specs.Heaviest.{weightOf, tieFirst}
 use Rattle.trees.specs.Built.{rowLength, builtTable}
 use Rattle.trees.specs.Rescored.{putScore}
@@ -86,13 +86,13 @@ pub record Demand1 : Type 0 where
   pub digested : (l : List ℕ) (d c : ℕ) (z : ℤ) (s n : ℕ) → (T (isDegree d) × Accepted narrow l → ⊥)
       → rescoredTimes n c z s (buildTable narrow l d .given) ≡ zeroTable
   -- any table, of which 128 rows are shown at most: whether it is fit; the row of a cluster, or the number shown where it has none; and
-  -- the taxa of the leaf set
+  -- the taxa of the leaf set, which are those of scored rows
   pub is-fit : (t : Table) → T (isFit narrow t) ↔ FitTable narrow t
   pub place-of : (t : Table) (c : ℕ) → (placeOf t c < shownRows t) ↔ ((i : ℕ) × (i < shownRows t) × (rowAt t i .cluster ≡ c))
   pub place-at : (t : Table) (c : ℕ) → placeOf t c < shownRows t → rowAt t (placeOf t c) .cluster ≡ c
   pub place-none : (t : Table) (c : ℕ) → (placeOf t c < shownRows t → ⊥) → placeOf t c ≡ shownRows t
-  pub leaf-set : (t : Table) (x : ℕ)
-      → T (inside (2 ^ x) (leafSet t)) ↔ ((i : ℕ) × (i < shownRows t) × T (inside (2 ^ x) (rowAt t i .cluster)))
+  pub leaf-set : (t : Table) (x : ℕ) → T (inside (2 ^ x) (leafSet t))
+      ↔ ((i : ℕ) × (i < shownRows t) × T (isScored (rowAt t i)) × T (inside (2 ^ x) (rowAt t i .cluster)))
   -- tables; what stands in one that is rescored is said below
   pub rescore : (t : Table) (c : ℕ) (z : ℤ) (s : ℕ)
       → Answered (rescoreTable narrow t c z s) (rescoreRefusals narrow t c z s) (FitTable narrow t × HasRow t c × KeepsScore z s) 0

@@ -1,5 +1,5 @@
 -- The words of demand 2: the trees of a list, and the one that is drawn (RULES 3, 4 and 9).
---     leafSetOf W l          the leaf set of a list: the union of all its clusters
+--     leafSetOf W l          the leaf set of a list: the union of its scored clusters
 --     treesAt W d l C        the trees on a cluster, of the listed, scored clusters of a list
 --     treesOfList W d l      the trees of a list: those on its leaf set
 --     EveryTree W d l C      the list of the trees on C has every set that is one, once, and nothing else
@@ -21,12 +21,12 @@ use lib.Signed.{ltZ}
 use Rattle.laws.specs.Limits.{Width}
 use Rattle.laws.specs.Lists.{Once, Same}
 use Rattle.laws.specs.Row.{Row}
-use Rattle.trees.specs.Rows.{clustersOf, scoredIn}
+use Rattle.trees.specs.Rows.{clustersOf, scoredIn, leaves}
 use Rattle.trees.specs.Tree.{isTree, treesOn}
 use Rattle.trees.specs.Heaviest.{weightOf, tieFirst}
 use Rattle.trees.specs.Result.{Result, marksOf}
 use Rattle.lists.specs.Records.{rowsOf}
-use Rattle.drawing.specs.Built.{leaves, treesOf}
+use Rattle.drawing.specs.Built.{treesOf}
 use Rattle.shapes.specs.Characters.{characters}
 use Rattle.shapes.specs.Decimal.{decimal}
 use Rattle.shapes.specs.Shape.{Shape, verticesOf, isOrdered}

@@ -25,6 +25,7 @@ use Rattle.answers.specs.declared.refusal.Refusal.the-variants.{NoTree}
 use Rattle.answers.specs.Reasons.{firstReason}
 use Rattle.answers.specs.Outcome.{outcomeOf, written}
 use Rattle.answers.proofs.Laws.Outcome.{written-whole}
+use Rattle.trees.specs.Rows.{leaves}
 use Rattle.trees.specs.Heaviest.{firstHeaviest}
 use Rattle.trees.proofs.Formula.Rows.{givenOf}
 use Rattle.trees.proofs.Sets.TreeFacts.{Given}
@@ -40,7 +41,7 @@ use Rattle.table.proofs.Laws.Build.{Buildable}
 use Rattle.members.specs.Draw.{hasTree, isDrawable, drawReasons}
 use Rattle.members.proofs.Laws.Draw.{nothing-refused}
 use Rattle.drawing.specs.Draw.{drawTree, drawText}
-use Rattle.drawing.specs.Built.{builtFrom, leaves, treesOf, listMax}
+use Rattle.drawing.specs.Built.{builtFrom, treesOf, listMax}
 use Rattle.drawing.proofs.Laws.Draw.{tree-refused, tree-put, text-refused, text-put}
 use Rattle.drawing.proofs.LeafRow.{leaf-set-is, has-tree-iff}
 use Rattle.drawing.proofs.LeafTree.{is-tree, members-back, members-are, listed, drawable}

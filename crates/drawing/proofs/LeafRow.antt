@@ -20,7 +20,6 @@ use native.Mathlib.Decide.{decLt}
 use native.Mathlib.Omega.{arith}
 use lib.Dec.{T, ltb, ltb→lt, lt→ltb}
 use lib.ListN.{length, length-map}
-use Rattle.laws.specs.Cluster.{unionOf}
 use Rattle.laws.specs.Limits.{Width, rowCap}
 use Rattle.laws.specs.Lists.{elem}
 use Rattle.laws.specs.Orders.{downTo}
@@ -30,7 +29,7 @@ use Rattle.laws.proofs.Appended.{map-through}
 use Rattle.laws.proofs.Down.{down-mem, down-map}
 use Rattle.laws.proofs.Keep.{elem→, →elem, nil-of-none}
 use Rattle.laws.proofs.Tests.{true-T}
-use Rattle.trees.specs.Rows.{clustersOf, scoredIn, Entry, cl}
+use Rattle.trees.specs.Rows.{clustersOf, scoredIn, leaves, Entry, cl}
 use Rattle.trees.specs.Tree.{treesOn}
 use Rattle.trees.specs.Heaviest.{firstHeaviest}
 use Rattle.trees.specs.Result.{Result, countField}
@@ -50,7 +49,7 @@ use Rattle.table.proofs.Fitting.FitTables.{built-fit}
 use Rattle.table.proofs.Laws.Build.{Buildable}
 use Rattle.members.specs.Draw.{leafRow, hasTree}
 use Rattle.members.proofs.Laws.Draw.{hasTree→, hasTree-count}
-use Rattle.drawing.specs.Built.{builtFrom, leaves, treesOf}
+use Rattle.drawing.specs.Built.{builtFrom, treesOf}
 
 -- ---- the rows of the table
 
@@ -96,8 +95,7 @@ module _ (W : Width) (facts : WidthFacts W) (d : ℕ) (rs : List Row) (k : Build
   -- ---- the leaf set and its row
 
   pub leaf-set-is : leafSet (builtFrom W d rs) ≡ leaves rs
-  leaf-set-is =
-      ap (λ (n : ℕ). unionOf (clustersDown (t .clusters) n)) shown-is ∙ ap unionOf clusters-down
+  leaf-set-is = ap (λ (n : ℕ). leaves (downTo (rowAt t) n)) shown-is ∙ ap leaves rows-are
 
   pub leaf-row-iff : (leafRow (builtFrom W d rs) < builtFrom W d rs .rows) ↔ Mem (leaves rs) (clustersOf rs)
   leaf-row-iff = (to, from)

@@ -25,7 +25,7 @@ use Rattle.laws.proofs.Down.{down-mem, down-falling}
 use Rattle.laws.proofs.Falling.{in-turn-keep, falling-once, sublist-is-elem}
 use Rattle.laws.proofs.Once.{map-inj}
 use Rattle.laws.proofs.Tests.{and-T, T-true, true-T}
-use Rattle.trees.specs.Rows.{clustersOf, scoredIn, Entry, cl}
+use Rattle.trees.specs.Rows.{clustersOf, scoredIn, leaves, Entry, cl}
 use Rattle.trees.specs.Tree.{isTree}
 use Rattle.trees.specs.Heaviest.{weightOf, firstHeaviest}
 use Rattle.trees.specs.Result.{Result, marksIn, marksOf}
@@ -51,7 +51,7 @@ use Rattle.members.specs.Marked.{membersTo, scoredTo, weightTo, isSame}
 use Rattle.members.specs.Draw.{leafRow, leafMarks, membersOf, areScored, weighsBest, isDrawable}
 use Rattle.members.proofs.Laws.Draw.{isSame-refl}
 use Rattle.members.proofs.Laws.Tells.{Tells, members-tell, scored-tell, weight-tell}
-use Rattle.drawing.specs.Built.{builtFrom, leaves, treesOf}
+use Rattle.drawing.specs.Built.{builtFrom, treesOf}
 use Rattle.drawing.proofs.LeafRow.{shown-is, rows-are, clusters-down, rising, row-at, leaf-set-is, leaf-result, leaf-listed}
 
 pub marks-tell : (cs : List ℕ) (n : ℕ) (p : ℕ → Bool) → Rising cs n → Tells cs (marksIn (clustersDown cs n) p) p n

@@ -20,18 +20,18 @@ use Rattle.laws.specs.Cluster.{inside, taxa, unionOf}
 use Rattle.laws.specs.Limits.{narrow}
 use Rattle.laws.specs.Lists.{keep}
 use Rattle.laws.specs.Orders.{Falling, downTo}
-use Rattle.laws.specs.Row.{Row}
+use Rattle.laws.specs.Row.{Row, isScored}
 use Rattle.laws.specs.State.{scoredState}
 use Rattle.laws.proofs.Cluster.{→inside, inside-of-has, has-of-inside, inside-antisym, inside-unionOf, unionOf-inside}
 use Rattle.laws.proofs.Digits.{pow-has}
 use Rattle.laws.proofs.Down.{mem-down, down-mem, down-map, falling-down}
-use Rattle.laws.proofs.Keep.{mem-keep, mem-of-keep}
+use Rattle.laws.proofs.Keep.{mem-keep, mem-of-keep, keep-all}
 use Rattle.laws.proofs.Falling.{falling-once}
 use Rattle.laws.proofs.State.{scored-state, scored-is}
 use Rattle.laws.proofs.Taxa.{taxa-mem, mem-taxa}
 use Rattle.laws.proofs.Tests.{neq→, →neq}
 use Rattle.laws.proofs.Width.{narrow-facts}
-use Rattle.trees.specs.Rows.{clustersOf}
+use Rattle.trees.specs.Rows.{clustersOf, leaves}
 use Rattle.lists.specs.Records.{recordsIn, listedAt, rowsOf}
 use Rattle.lists.specs.Accepted.{Bytes, Accepted}
 use Rattle.lists.proofs.Laws.Written.{written-records, written-down, written-bytes, written-rows, written-accepted}
@@ -143,10 +143,11 @@ module _ (s : List ℕ) where
             sym (down-map (λ (r : Row). r .cluster) (listedAt narrow (sheetBytes s)) (length (sheetRows s)))
             ∙ ap clustersOf (written-down narrow narrow-facts (sheetRows s) (made-rules s z))
 
-    -- every cluster lies inside that of all lines, which is one of them
-    pub made-leaves : unionOf (clustersOf (sheetRows s)) ≡ allOf (lineCount s)
+    -- every row is scored; every cluster lies inside that of all lines, which is one of them
+    pub made-leaves : leaves (sheetRows s) ≡ allOf (lineCount s)
     made-leaves =
-        ap unionOf (made-clusters s z)
+        ap (λ (rs : List Row). unionOf (clustersOf rs)) (keep-all isScored (sheetRows s) (λ r m. row-iff r .0 m .scored))
+        ∙ ap unionOf (made-clusters s z)
         ∙ inside-antisym (unionOf (sheetClusters s)) (allOf (lineCount s))
         (unionOf-inside (sheetClusters s) (allOf (lineCount s)) (λ c m. within c (cluster-iff c .0 m)))
         (inside-unionOf (sheetClusters s) (allOf (lineCount s)) (cluster-iff (allOf (lineCount s)) .1 (inr (inr (all-iff s)))))

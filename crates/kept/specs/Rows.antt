@@ -2,7 +2,7 @@
 --     shownRows t          how many rows there are to look at
 --     placeAmong cs n c    the first of the first n places at which cs has c; n where none has
 --     placeOf t c          the row of the cluster c: the number of rows to look at where it has none
---     leafSet t            the leaf set of a table: the union of its rows' clusters
+--     leafSet t            the leaf set of a table: that of its rows
 --     hasRow t c           a row of the table has the cluster c
 -- Assumes nothing.
 use mathlib.Core.Bool.{Bool}
@@ -10,12 +10,12 @@ use mathlib.Core.List.{List}
 use Prim.Native.Nat.{ℕ, min}
 use lib.Dec.{eqb}
 use lib.ListN.{getD}
-use Rattle.laws.specs.Cluster.{unionOf}
 use Rattle.laws.specs.Lists.{elem}
-use Rattle.laws.specs.Orders.{firstFrom}
+use Rattle.laws.specs.Orders.{firstFrom, downTo}
 use Rattle.laws.specs.Limits.{rowCap}
+use Rattle.trees.specs.Rows.{leaves}
 use Rattle.kept.specs.declared.table.Table.{Table}
-use Rattle.kept.specs.View.{clustersIn, clustersDown}
+use Rattle.kept.specs.View.{rowAt, clustersIn}
 
 abbrev pub shownRows : Table → ℕ
 shownRows t = min (t .rows) rowCap
@@ -27,7 +27,7 @@ abbrev pub placeOf : Table → ℕ → ℕ
 placeOf t c = placeAmong (t .clusters) (shownRows t) c
 
 abbrev pub leafSet : Table → ℕ
-leafSet t = unionOf (clustersDown (t .clusters) (shownRows t))
+leafSet t = leaves (downTo (rowAt t) (shownRows t))
 
 abbrev pub hasRow : Table → ℕ → Bool
 hasRow t c = elem c (clustersIn t)

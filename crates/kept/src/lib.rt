@@ -2,7 +2,7 @@
 // definition of `specs/`. The crate `table` builds and rescores it, and passes on what the rules name.
 //     Table, zero_table         one value with room for 128 rows, and the one that is all zero
 //     is_fit                    every sentence of what a fit table is (RULES 6), as one test
-//     place_of, leaf_set        where a cluster's row stands, and the union of all clusters
+//     place_of, leaf_set        where a cluster's row stands, and the union of the scored clusters
 //     is_marked                 whether a row is among the members of another
 //     COUNT_MAX, ..             the rules' limits that the crates above compare with too
 mod blank;

@@ -1,13 +1,12 @@
 // Looking up rows in a table, whatever it holds. Cites `specs/Rows.antt`.
 //     place_of     where the row of a cluster stands
-//     leaf_set     the union of all clusters
+//     leaf_set     the union of the scored clusters
 use crate::limits::ROW_CAP;
 use crate::table::Table;
+use cluster::is_scored;
 ghost use mathlib.Core.Path.{_≡_};
 ghost use Prim.Native.Nat.{_≤_};
 ghost use lib.ListN.{length};
-ghost use Rattle.laws.specs.Cluster.{unionOf};
-ghost use Rattle.kept.specs.View.{clustersDown};
 ghost use Rattle.kept.specs.Rows.{shownRows, placeAmong, placeOf, leafSet};
 
 // How many rows of `t` there are to look at: none past the 128.
@@ -36,20 +35,6 @@ fn place_among(clusters: &[u64], n: usize, cluster: u64) -> usize
     n
 }
 
-// The union of the first `n` clusters.
-fn union_to(clusters: &[u64], n: usize) -> u64
-    requires { ⌜ n ≤ length (now clusters) ⌝ }
-    ensures { λ c. ⌜ c ≡ unionOf (clustersDown (now (clusters .entry)) n) ⌝ }
-{
-    let mut all = 0;
-    let mut i = 0;
-    while i < n {
-        all = all | clusters[i];
-        i += 1;
-    }
-    all
-}
-
 // The row of `cluster`, counted from 0; the number of rows, but no more than 128, where it has none.
 pub fn place_of(t: Table, cluster: u64) -> usize
     ensures { λ i. ⌜ i ≡ placeOf t cluster ⌝ }
@@ -58,10 +43,18 @@ pub fn place_of(t: Table, cluster: u64) -> usize
     place_among(&t.clusters, n, cluster)
 }
 
-// The union of the clusters of all rows: no taxon where there is no row.
+// The union of the scored clusters, whatever they weigh: no taxon where no row is scored.
 pub fn leaf_set(t: Table) -> u64
     ensures { λ c. ⌜ c ≡ leafSet t ⌝ }
 {
     let n = shown_rows(t);
-    union_to(&t.clusters, n)
+    let mut all = 0;
+    let mut i = 0;
+    while i < n {
+        if is_scored(t.states[i]) {
+            all = all | t.clusters[i];
+        }
+        i += 1;
+    }
+    all
 }

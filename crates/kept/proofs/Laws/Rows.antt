@@ -3,30 +3,31 @@
 --     place-at, place-none, place-iff     the row of a cluster, in any table: it has it; or none has, and all that are looked at are told
 --     placeOf-at           the row of a cluster has it
 --     hasRow-is            a cluster has a row exactly where its place is below the number of rows
---     union-more           the union of the first clusters, one more
+--     leafSet-iff          a taxon of the leaf set is one of a scored row
 -- Assumes nothing.
 use mathlib.Core.Path.{_≡_, sym, ap, _∙_, subst}
 use mathlib.Core.Logic.{_↔_}
 use mathlib.Core.Bool.{Bool}
 use mathlib.Core.List.{List}
-use Prim.Native.Nat.{ℕ, _+_, _≤_, _<_}
+use Prim.Native.Nat.{ℕ, _^_, _≤_, _<_}
 use native.Mathlib.Decide.{decLt}
 use native.Mathlib.Nat.{min-eq-left}
-use native.Mathlib.Numerals.{add-one}
 use native.Mathlib.Omega.{arith}
 use borrow.Author.Tests.{eq-eqb, eqb-true}
-use lib.Bits.{bitOr, or-comm}
 use lib.Dec.{T, eqb, ltb, ltb→lt, lt→ltb}
 use lib.ListN.{getD}
-use Rattle.laws.specs.Cluster.{unionOf}
+use Rattle.laws.specs.Cluster.{inside}
 use Rattle.laws.specs.Lists.{elem}
 use Rattle.laws.specs.Limits.{rowCap}
-use Rattle.laws.proofs.Down.{elem-down-iff}
+use Rattle.laws.specs.Orders.{downTo}
+use Rattle.laws.specs.Row.{Row, isScored}
+use Rattle.laws.proofs.Down.{mem-down, down-mem, elem-down-iff}
 use Rattle.laws.proofs.First.{first-high, first-at, unfound-iff}
 use Rattle.laws.proofs.Tests.{bool-ext}
+use Rattle.trees.proofs.Formula.Rows.{leaves-iff}
 use Rattle.kept.specs.declared.table.Table.{Table}
-use Rattle.kept.specs.View.{clustersDown}
-use Rattle.kept.specs.Rows.{shownRows, placeOf, hasRow}
+use Rattle.kept.specs.View.{rowAt, clustersDown}
+use Rattle.kept.specs.Rows.{shownRows, placeOf, leafSet, hasRow}
 use Rattle.kept.proofs.Laws.Clusters.{clusters-are}
 
 abbrev pub isClusterAt : List ℕ → ℕ → ℕ → Bool
@@ -76,6 +77,23 @@ module _ (t : Table) (capped : t .rows ≤ rowCap) (c : ℕ) where
           let l = place-iff t c .1 (q .0, omega (arith, all-shown, q .1), sym (q .2)) in
           lt→ltb (placeOf t c) (t .rows) (omega (arith, all-shown, l))
 
--- ---- unions
-pub union-more : (cs : List ℕ) (i : ℕ) → bitOr (unionOf (clustersDown cs i)) (getD cs i 0) ≡ unionOf (clustersDown cs (i + 1))
-union-more cs i = rw (add-one i) (or-comm (unionOf (clustersDown cs i)) (getD cs i 0))
+-- ---- the leaf set
+
+module _ (t : Table) (x : ℕ) where
+  abbrev all : List Row
+  all = downTo (rowAt t) (shownRows t)
+
+  pub leafSet-iff : T (inside (2 ^ x) (leafSet t))
+      ↔ ((i : ℕ) × (i < shownRows t) × T (isScored (rowAt t i)) × T (inside (2 ^ x) (rowAt t i .cluster)))
+  leafSet-iff = (to, λ q. leaves-iff all x .1 (rowAt t (q .0), down-mem (rowAt t) (shownRows t) (q .0) (q .1), q .2, q .3))
+    where
+      to : T (inside (2 ^ x) (leafSet t))
+          → (i : ℕ) × (i < shownRows t) × T (isScored (rowAt t i)) × T (inside (2 ^ x) (rowAt t i .cluster))
+      to h =
+          let q = leaves-iff all x .0 h in
+          let p = mem-down (rowAt t) (shownRows t) (q .0) (q .1) in (
+            p .0,
+            p .1,
+            subst (λ (r : Row). T (isScored r)) (p .2) (q .2),
+            subst (λ (r : Row). T (inside (2 ^ x) (r .cluster))) (p .2) (q .3),
+          )

@@ -4,21 +4,27 @@
 --     table-rows, table-row, row-table, table-clusters   the rows of a table, by any row formula, are the rows it was made of
 --     scored-mem, mem-scored     the clusters of the scored rows
 --     scored-once            none of them twice
+--     leaves-iff, leaves-none     a taxon of the leaf set is one of a scored row; where none is scored there is none
+--     leaves-scored, leaves-unscored     one row more, scored and unscored
 --     givenOf                the question about trees that rows ask
 -- Assumes nothing.
 use mathlib.Core.Path.{_≡_, refl, sym, ap, _∙_, subst}
-use mathlib.Core.Logic.{_≢_}
+use mathlib.Core.Logic.{_≢_, _↔_}
+use mathlib.Core.Bool.{true, false}
 use mathlib.Core.List.{List, [], _∷_, map, Memᴰ·map, Memᴰ·of-map}
 use mathlib.Core.List.{List·Memᴰ as Mem, List·Memᴰ·head as here, List·Memᴰ·tail as there, List·Memᴰ·not-nil as mem-nil}
 use Prim.Native.Nat.{ℕ, _^_, _<_}
+use lib.Bits.{bitOr, or-comm}
 use lib.Dec.{T}
+use Rattle.laws.specs.Cluster.{inside, unionOf}
 use Rattle.laws.specs.Lists.{keep, Once}
 use Rattle.laws.specs.Orders.{Falling}
 use Rattle.laws.specs.Row.{Row, isScored}
+use Rattle.laws.proofs.Cluster.{inside-trans, inside-unionOf, taxon-of-unionOf}
 use Rattle.laws.proofs.Falling.{falling-once}
-use Rattle.laws.proofs.Keep.{mem-keep, mem-of-keep}
+use Rattle.laws.proofs.Keep.{mem-keep, mem-of-keep, nil-of-none}
 use Rattle.laws.proofs.Once.{once-map-keep}
-use Rattle.trees.specs.Rows.{clustersOf, scoredIn, RowFacts, Entry, cl}
+use Rattle.trees.specs.Rows.{clustersOf, scoredIn, leaves, RowFacts, Entry, cl}
 use Rattle.trees.specs.Kind.{workedFrom}
 use Rattle.trees.proofs.Sets.TreeFacts.{Given}
 
@@ -62,6 +68,36 @@ mem-scored rs c m =
 
 pub scored-once : (w : ℕ) (rs : List Row) → RowFacts w rs → Once (scoredIn rs)
 scored-once w rs f = once-map-keep (λ (x : Row). x .cluster) isScored rs (falling-once (clustersOf rs) (f .falls))
+
+-- ---- the leaf set
+
+pub leaves-iff : (rs : List Row) (x : ℕ)
+    → T (inside (2 ^ x) (leaves rs)) ↔ ((r : Row) × Mem r rs × T (isScored r) × T (inside (2 ^ x) (r .cluster)))
+leaves-iff rs x = (to, from)
+  where
+    to : T (inside (2 ^ x) (leaves rs)) → (r : Row) × Mem r rs × T (isScored r) × T (inside (2 ^ x) (r .cluster))
+    to h =
+        let q = taxon-of-unionOf (scoredIn rs) x h in
+        let k = mem-scored rs (q .0) (q .1) in
+        (k .0, k .1, k .2, subst (λ (c : ℕ). T (inside (2 ^ x) c)) (sym (k .3)) (q .2))
+
+    from : (r : Row) × Mem r rs × T (isScored r) × T (inside (2 ^ x) (r .cluster)) → T (inside (2 ^ x) (leaves rs))
+    from q =
+        let c = q .0 .cluster in
+        inside-trans (2 ^ x) c (leaves rs) (q .3) (inside-unionOf (scoredIn rs) c (scored-mem rs (q .0) (q .1) (q .2)))
+
+pub leaves-none : (rs : List Row) → ((r : Row) → Mem r rs → T (isScored r) → ⊥) → leaves rs ≡ 0
+leaves-none rs f = ap (λ (l : List Row). unionOf (clustersOf l)) (nil-of-none (keep isScored rs) none-kept)
+  where
+    none-kept : (r : Row) → Mem r (keep isScored rs) → ⊥
+    none-kept r m = let q = mem-of-keep isScored rs m in f r (q .0) (q .1)
+
+module _ (r : Row) (rs : List Row) where
+  pub leaves-scored : isScored r ≡ true → bitOr (leaves rs) (r .cluster) ≡ leaves (r ∷ rs)
+  leaves-scored e = rw e (or-comm (leaves rs) (r .cluster))
+
+  pub leaves-unscored : isScored r ≡ false → leaves rs ≡ leaves (r ∷ rs)
+  leaves-unscored e = rw e refl
 
 abbrev pub givenOf : (w d : ℕ) (rs : List Row) → RowFacts w rs → Given
 givenOf w d rs f = record { width = w; degree = d; listed = scoredIn rs; sound = sound; once = scored-once w rs f }
