@@ -4,9 +4,10 @@
 --     Case                a list, a degree bound, a rescoring where there is one, the rows that it changes, and how it ends
 --     score, noScore      a record, scored or unscored
 --     refusedFrom, drawnFrom     a case with no rescoring
+--     rescoredFrom        a case with one, and the rows that it changes
 --     tree                a tree whose row length isn't told
 -- Assumes nothing.
-use mathlib.Core.Option.{Option, none}
+use mathlib.Core.Option.{Option, none, some}
 use mathlib.Core.List.{List, []}
 use Prim.Native.Nat.{ℕ}
 use Prim.Native.String.{String}
@@ -45,6 +46,9 @@ refusedFrom rs d n = record { records = rs; degree = d; rescoring = none; change
 
 abbrev pub drawnFrom : List Row → ℕ → ToldTree → Case
 drawnFrom rs d x = record { records = rs; degree = d; rescoring = none; changed = []; ending = drawn x }
+
+abbrev pub rescoredFrom : List Row → ℕ → Row → List ℕ → Ending → Case
+rescoredFrom rs d r cs e = record { records = rs; degree = d; rescoring = some r; changed = cs; ending = e }
 
 abbrev pub tree : ℕ → ℤ → List ℕ → String → ToldTree
 tree n z xs s = record { count = n; weight = z; rowLength = none; members = xs; text = s }

@@ -1,9 +1,11 @@
--- The bench examples P1 to P11 (RULES 11) as one table. Every number is one that the rules name, but these, which follow from the list and
--- from the text that is printed: the members of every case but P1; the weights of P3 and of P8, P9 and P10; the counts of P4, P5 and P11.
--- For the house list count, weight and text at all three degree bounds are named by what `besttree` prints. P6 and P7 name no degree bound,
--- and all three are tried. A cluster stands as its number: {5} is 32. That each case is right: `proofs/Theorems.antt`.
+-- The bench examples P1 to P11 (RULES 11) as one table, with three more on blanks, B1 to B3. Every number of P1 to P11 is one that the
+-- rules name, but these, which follow from the list and from the text that is printed: the members of every case but P1; the weights of P3
+-- and of P8, P9 and P10; the counts of P4, P5 and P11. For the house list count, weight and text at all three degree bounds are named by
+-- what `besttree` prints, and P7 has the house list's answer. P6 and P7 name no degree bound, and all three are tried. A cluster stands as
+-- its number: {5} is 32. That each case is right: `proofs/Theorems.antt`.
 --     houseWith a b       the house list, with the records a and b of {0,1} and {1,2}
---     house               the house list
+--     house, ofHouse n    the house list, and its tree, with this count
+--     underTop            the house list and an unscored {0,1,2,3}
 --     leftOpen a          the house list with {1,2} unscored, and the record a of {0,1}
 --     fifteen, ofFifteen n m     all 15 clusters of four taxa at 0, and their tree, with this count and top row's length
 --     cases               the table
@@ -13,13 +15,21 @@ use mathlib.Core.List.{List, [], _∷_, _++_, map}
 use Prim.Native.Nat.{ℕ}
 use lib.IntN.{pos, negsuc}
 use Rattle.laws.specs.Row.{Row}
-use Rattle.examples.specs.Case.{ToldTree, drawn, Case, score, noScore, refusedFrom, drawnFrom, tree}
+use Rattle.examples.specs.Case.{ToldTree, refused, drawn, Case, score, noScore, refusedFrom, drawnFrom, rescoredFrom, tree}
 
 abbrev pub houseWith : Row → Row → List Row
 houseWith a b = score 1 (pos 0) ∷ score 2 (pos 0) ∷ score 4 (pos 0) ∷ a ∷ b ∷ score 7 (pos 1) ∷ []
 
 abbrev pub house : List Row
 house = houseWith (score 3 (pos 4)) (score 6 (pos 4))
+
+-- the house list under a blank {0,1,2,3}
+abbrev pub underTop : List Row
+underTop = house ++ (noScore 15 ∷ [])
+
+-- the tree of the house list, with this count
+abbrev pub ofHouse : ℕ → ToldTree
+ofHouse n = tree n (pos 5) (1 ∷ 2 ∷ 4 ∷ 6 ∷ 7 ∷ []) "(0,(1,2));"
 
 abbrev pub leftOpen : Row → List Row
 leftOpen a = houseWith a (noScore 6)
@@ -40,9 +50,9 @@ ofFifteen n m = record {
 abbrev pub cases : List Case
 cases =
     -- P1, P2, and the third line that `besttree` prints
-    drawnFrom house 3 (tree 2 (pos 5) (1 ∷ 2 ∷ 4 ∷ 6 ∷ 7 ∷ []) "(0,(1,2));")
-    ∷ drawnFrom house 4 (tree 3 (pos 5) (1 ∷ 2 ∷ 4 ∷ 6 ∷ 7 ∷ []) "(0,(1,2));")
-    ∷ drawnFrom house 5 (tree 3 (pos 5) (1 ∷ 2 ∷ 4 ∷ 6 ∷ 7 ∷ []) "(0,(1,2));")
+    drawnFrom house 3 (ofHouse 2)
+    ∷ drawnFrom house 4 (ofHouse 3)
+    ∷ drawnFrom house 5 (ofHouse 3)
     -- P3
     ∷ drawnFrom (leftOpen (score 3 (pos 4))) 3 (tree 1 (pos 5) (1 ∷ 2 ∷ 3 ∷ 4 ∷ 7 ∷ []) "((0,1),2);")
     -- P4, P5: {0,1} at -4, weights -3 and 1
@@ -55,20 +65,19 @@ cases =
     ∷ refusedFrom (noScore 32 ∷ []) 3 7
     ∷ refusedFrom (noScore 32 ∷ []) 4 7
     ∷ refusedFrom (noScore 32 ∷ []) 5 7
-    -- P7
-    ∷ refusedFrom (house ++ (noScore 8 ∷ [])) 3 7
-    ∷ refusedFrom (house ++ (noScore 8 ∷ [])) 4 7
-    ∷ refusedFrom (house ++ (noScore 8 ∷ [])) 5 7
+    -- P7: a blank {3} adds no yeast
+    ∷ drawnFrom (house ++ (noScore 8 ∷ [])) 3 (ofHouse 2)
+    ∷ drawnFrom (house ++ (noScore 8 ∷ [])) 4 (ofHouse 3)
+    ∷ drawnFrom (house ++ (noScore 8 ∷ [])) 5 (ofHouse 3)
+    -- B1: nor does a blank {0,1,2,3}, whose row is the last
+    ∷ drawnFrom underTop 3 (ofHouse 2)
+    -- B2, B3: a rescoring scores it, and there is no tree, since {3} has no record; another makes it a blank again
+    ∷ rescoredFrom underTop 3 (score 15 (pos 0)) (15 ∷ []) (refused 7)
+    ∷ rescoredFrom (house ++ (score 15 (pos 0) ∷ [])) 3 (noScore 15) (15 ∷ []) (drawn (ofHouse 2))
     -- P8, P9, P10
     ∷ drawnFrom fifteen 3 (ofFifteen 15 7)
     ∷ drawnFrom fifteen 4 (ofFifteen 25 13)
     ∷ drawnFrom fifteen 5 (ofFifteen 26 14)
     -- P11
-    ∷ record {
-      records = house;
-      degree = 3;
-      rescoring = some (score 3 (pos 5));
-      changed = 3 ∷ 7 ∷ [];
-      ending = drawn (tree 2 (pos 6) (1 ∷ 2 ∷ 3 ∷ 4 ∷ 7 ∷ []) "((0,1),2);");
-    }
+    ∷ rescoredFrom house 3 (score 3 (pos 5)) (3 ∷ 7 ∷ []) (drawn (tree 2 (pos 6) (1 ∷ 2 ∷ 3 ∷ 4 ∷ 7 ∷ []) "((0,1),2);"))
     ∷ []
