@@ -11,6 +11,7 @@
 --     Demand2             all of this for every accepted list, changed or not, with its table, rescored or not
 --     Demand3             a rescored table is the fresh build, and what a rescoring leaves alone
 --     Reworks             tables that no build made: what stands in a row that a rescoring works out again
+--     BlankLanes          records without a score: what they do, which is nothing, and what a rescoring does to the leaf set
 --     madeList s room     the list that an import has put at the start of a room
 --     MakesLists s room   gel sheets: what that list is, and that a build takes it
 --     Demands             all of them, with one outcome for every public operation (`OneOutcome.antt`)
@@ -33,7 +34,8 @@ use Rattle.shapes.specs.Decimal.{decimal}
 use Rattle.shapes.specs.Shape.{Shape}
 use Rattle.shapes.specs.Text.{textBytes}
 use Rattle.shapes.specs.Drawn.{ascending}
-use Rattle.answers.specs.declared.refusal.Answer.the-variants.{Done}
+use Rattle.answers.specs.declared.refusal.Answer.the-variants.{Done, Refused}
+use Rattle.answers.specs.declared.refusal.Refusal.the-variants.{NoTree}
 use Rattle.answers.specs.Outcome.{outcomeOf, putInto, written}
 use Rattle.cluster.specs.declared.record.Record.{Record}
 use Rattle.cluster.specs.Record.{recordBytes, rowIn, recordOf, bytesOf}
@@ -43,6 +45,7 @@ use Rattle.cluster.specs.Writing.{writeRecord}
 use Rattle.lists.specs.Records.{recordsIn, listedAt, rowsOf}
 use Rattle.lists.specs.Listing.{listed, readList}
 use Rattle.lists.specs.Accepted.{Bytes, Accepted, HasCluster}
+use Rattle.lists.specs.Joined.{withoutBlanks}
 use Rattle.gel.specs.Lines.{widthOf}
 use Rattle.gel.specs.Columns.{columnsWith, sheetRows}
 use Rattle.gel.specs.Facts.{IsRead, GivenBy, AreLines, SheetCluster, SheetRow, Numbered}
@@ -67,6 +70,7 @@ use Rattle.demands.specs.Refusals.{readRefusals, writeRefusals, listRefu
 use Rattle.demands.specs.Refusals.{sheetRefusals, rescoreRefusals, drawRefusals, roomRefusals}
 use Rattle.demands.specs.Trees.{leafSetOf, treesAt, treesOfList, EveryTree, FirstBy, TellsTrees, ShapeOf, printedCount}
 use Rattle.demands.specs.Worked.{WorkedRow}
+use Rattle.demands.specs.Blanks.{SameScored, SameAnswers, KeepsTaxon}
 use Rattle.demands.specs.OneOutcome.{OneOutcome}
 
 -- ---- demand 1: every list, every degree bound and every kept table gets an answer
@@ -243,6 +247,31 @@ pub record Reworks : Type 0 where
   pub fit : (t : Table) (c : ℕ) (z : ℤ) (s : ℕ) → rescoreTable narrow t c z s .sent .number ≡ 0
       → FitTable narrow (rescoreTable narrow t c z s .given)
 
+-- ---- blanks: records without a score
+
+pub record BlankLanes : Type 0 where
+  -- a list with its unscored records left out has the scored ones, and is accepted where there is one
+  pub left : (l : List ℕ) → AcceptedBytes narrow l → (r : Row)
+      → Mem r (rowsOf narrow (withoutBlanks narrow l)) ↔ (Mem r (rowsOf narrow l) × T (isScored r))
+  pub accepted : (l : List ℕ) → AcceptedBytes narrow l → (r : Row) → Mem r (rowsOf narrow l) → T (isScored r)
+      → AcceptedBytes narrow (withoutBlanks narrow l)
+  -- it then has the same answers, whatever the others name
+  pub same : (l : List ℕ) (d : ℕ) → AcceptedBytes narrow l → T (isDegree d) → (r : Row) → Mem r (rowsOf narrow l) → T (isScored r)
+      → SameAnswers d l (withoutBlanks narrow l)
+  -- so have any two lists with the same scored records
+  pub any-two : (l m : List ℕ) (d : ℕ) → AcceptedBytes narrow l → AcceptedBytes narrow m → T (isDegree d) → SameScored l m
+      → SameAnswers d l m
+  -- where none is scored there is no taxon and no row, in any fit table, and so no tree
+  pub none-scored : (t : Table) → FitTable narrow t → ((i : ℕ) → i < t .rows → T (isScored (rowAt t i)) → ⊥)
+      → (leafSet t ≡ 0) × (leafRow t ≡ t .rows)
+  pub no-tree : (t : Table) → FitTable narrow t → ((i : ℕ) → i < t .rows → T (isScored (rowAt t i)) → ⊥) → (room : List ℕ)
+      → (drawTree narrow t room ≡ outcomeOf (Refused NoTree) room) × (drawText narrow t room ≡ outcomeOf (Refused NoTree) room)
+  -- an accepted rescoring can take taxa away, or bring them; after any of them the leaf set is that of the changed list
+  pub rescored : (t : Table) (c : ℕ) (z : ℤ) (s : ℕ) → rescoreTable narrow t c z s .sent .number ≡ 0 → (x : ℕ)
+      → T (inside (2 ^ x) (leafSet (rescoreTable narrow t c z s .given))) ↔ KeepsTaxon t c s x
+  pub changed : (l : List ℕ) (d : ℕ) (xs : List Row) → AcceptedBytes narrow l → T (isDegree d)
+      → leafSet (rescoreAll narrow (buildTable narrow l d .given) xs) ≡ leafSetOf narrow (changeAll narrow l xs)
+
 -- ---- gel sheets: the list that is made
 
 abbrev pub madeList : List ℕ → List ℕ → List ℕ
@@ -272,6 +301,7 @@ pub record Demands : Type 0 where
   pub demand2 : Demand2
   pub demand3 : Demand3
   pub reworks : Reworks
+  pub blank-lanes : BlankLanes
   pub makes-lists : (s room : List ℕ) → importSheet s room .sent .number ≡ 0 → MakesLists s room
   -- strict marking: of each public operation, two outcomes that its promise allows are equal
   pub one-outcome : OneOutcome

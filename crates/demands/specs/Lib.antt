@@ -7,5 +7,7 @@ pub mod Refusals
 pub mod Trees
 -- a row worked out from the rows of its table
 pub mod Worked
+-- records without a score
+pub mod Blanks
 -- strict marking: each public operation with its promise
 pub mod OneOutcome

@@ -3,5 +3,7 @@
 pub mod Kind
 -- rows that fall, and the rows of a table
 pub mod Rows
+-- what rows without a score do to a weight
+pub mod Blanks
 -- the row length, among all rows and among the rows beneath
 pub mod RowLength

@@ -3,7 +3,7 @@
 --     above-rest             the first row is above the others
 --     table-rows, table-row, row-table, table-clusters   the rows of a table, by any row formula, are the rows it was made of
 --     scored-mem, mem-scored     the clusters of the scored rows
---     scored-once            none of them twice
+--     scored-once, scored-falls     none of them twice, and they fall too
 --     leaves-iff, leaves-none     a taxon of the leaf set is one of a scored row; where none is scored there is none
 --     leaves-scored, leaves-unscored     one row more, scored and unscored
 --     givenOf                the question about trees that rows ask
@@ -21,9 +21,10 @@ use Rattle.laws.specs.Lists.{keep, Once}
 use Rattle.laws.specs.Orders.{Falling}
 use Rattle.laws.specs.Row.{Row, isScored}
 use Rattle.laws.proofs.Cluster.{inside-trans, inside-unionOf, taxon-of-unionOf}
-use Rattle.laws.proofs.Falling.{falling-once}
+use Rattle.laws.proofs.Falling.{in-turn-keep, falling-once}
 use Rattle.laws.proofs.Keep.{mem-keep, mem-of-keep, nil-of-none}
 use Rattle.laws.proofs.Once.{once-map-keep}
+use Rattle.laws.proofs.Sort.{in-turn-map, map-in-turn}
 use Rattle.trees.specs.Rows.{clustersOf, scoredIn, leaves, RowFacts, Entry, cl}
 use Rattle.trees.specs.Kind.{workedFrom}
 use Rattle.trees.proofs.Sets.TreeFacts.{Given}
@@ -68,6 +69,11 @@ mem-scored rs c m =
 
 pub scored-once : (w : ℕ) (rs : List Row) → RowFacts w rs → Once (scoredIn rs)
 scored-once w rs f = once-map-keep (λ (x : Row). x .cluster) isScored rs (falling-once (clustersOf rs) (f .falls))
+
+pub scored-falls : (rs : List Row) → Falling (clustersOf rs) → Falling (scoredIn rs)
+scored-falls rs f =
+    map-in-turn (λ (r : Row). r .cluster) (λ (c x : ℕ). x < c) (keep isScored rs)
+    (in-turn-keep (λ (r q : Row). q .cluster < r .cluster) isScored rs (in-turn-map (λ (r : Row). r .cluster) (λ (c x : ℕ). x < c) rs f))
 
 -- ---- the leaf set
 

@@ -1,0 +1,7 @@
+-- Records without a score, in the order in which it builds up.
+-- two lists with the same scored records
+mod Same
+-- the leaf set where none is scored, and after a rescoring
+mod Rescored
+-- all that is said of them
+pub mod Lanes
