@@ -8,6 +8,10 @@ pub mod Records
 pub mod Reasons
 -- reading by cases
 pub mod Listing
+-- the records of a list as their bytes
+pub mod RecordBytes
+-- records put one after the other
+pub mod Joined
 -- rows written one after the other
 pub mod Written
 -- records read, one after another

@@ -11,7 +11,7 @@
 -- Assumes nothing.
 use mathlib.Core.Path.{_≡_}
 use mathlib.Core.Logic.{_≢_}
-use mathlib.Core.List.{List, [], _∷_, _++_}
+use mathlib.Core.List.{List, map}
 use Prim.Native.Nat.{ℕ, _%_, _≤_, _<_}
 use lib.ListN.{length, getD}
 use Rattle.laws.specs.Limits.{Width}
@@ -19,6 +19,7 @@ use Rattle.laws.specs.Row.{Row}
 use Rattle.cluster.specs.Bytes.{byteValues}
 use Rattle.cluster.specs.Reading.{KeepsBytes}
 use Rattle.cluster.specs.Record.{bytesOf}
+use Rattle.lists.specs.Joined.{joined}
 use Rattle.lists.specs.Records.{recordsIn, bytesAt, listedAt}
 
 abbrev pub Bytes : List ℕ → Type 0
@@ -58,5 +59,4 @@ module _ (W : Width) (l : List ℕ) where
 
 -- ---- rows written
 abbrev pub bytesOfRows : Width → List Row → List ℕ
-bytesOfRows W [] = []
-bytesOfRows W (r ∷ rs) = bytesOfRows W rs ++ bytesOf W r
+bytesOfRows W rs = joined (map (bytesOf W) rs)

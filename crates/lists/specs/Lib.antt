@@ -3,6 +3,8 @@
 pub mod Rows
 -- the records of a list
 pub mod Records
+-- records put one after the other
+pub mod Joined
 -- reading a list: its reasons and its outcome
 pub mod Listing
 -- which lists are taken, in words, and lists that are written

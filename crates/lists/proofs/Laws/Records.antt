@@ -2,6 +2,7 @@
 --     keeps-iff, breaks-iff     a record keeps the rules, or breaks them
 --     repeats-iff, new-iff      it has the cluster of an earlier record, or doesn't
 --     row-iff, cluster-iff      the rows of a list are its records, and their clusters those of its records
+--     record-bytes              the bytes of a record are bytes
 --     cluster-small             a cluster is within the width
 --     row-rules, row-facts      rows of records that keep the rules and don't repeat
 -- Assumes nothing.
@@ -80,12 +81,12 @@ module _ (W : Width) (l : List ℕ) where
       let same = elem-rows (listedAt W l) c (recordsIn W l) in
       (λ t. by .0 (subst T same t), λ q. subst T (sym same) (by .1 q))
 
+  pub record-bytes : Bytes l → (i : ℕ) → Bytes (bytesAt W l i)
+  record-bytes byte i = take-bytes (W .recordBytes) (drop (i * W .recordBytes) l) (drop-bytes (i * W .recordBytes) l byte)
+
   module _ (facts : WidthFacts W) (byte : Bytes l) where
     pub cluster-small : (i : ℕ) → listedAt W l i .cluster < 2 ^ W .taxa
-    cluster-small i =
-        rw (taxa-bytes W facts)
-        (numberAt-lt (bytesAt W l i) (take-bytes (W .recordBytes) (drop (i * W .recordBytes) l) (drop-bytes (i * W .recordBytes) l byte))
-        (W .clusterBytes) 0)
+    cluster-small i = rw (taxa-bytes W facts) (numberAt-lt (bytesAt W l i) (record-bytes byte i) (W .clusterBytes) 0)
 
     module _ (kept : (i : ℕ) → i < recordsIn W l → KeepsAt W l i) where
       rules-at : (i : ℕ) → i < recordsIn W l → T (keepsRules W (listedAt W l i))

@@ -1,6 +1,5 @@
 -- Rows written one after the other, `bytesOfRows` of `specs/Accepted.antt`: what the bytes, the records and the rows of that list are.
 --     written-length, written-records     how many bytes, and how many records
---     written-at               the bytes of a record are those of a row
 --     written-down             the records are the rows, the last record first
 --     written-bytes            they are bytes
 --     written-rows             the rows of the list are these
@@ -8,93 +7,82 @@
 -- Assumes nothing.
 use mathlib.Core.Path.{_≡_, refl, sym, ap, ap₂, _∙_, subst}
 use mathlib.Core.Bool.{false}
-use mathlib.Core.List.{List, [], _∷_}
+use mathlib.Core.List.{List, [], _∷_, map, map-map, Memᴰ·of-map}
 use mathlib.Core.List.{List·Memᴰ as Mem, List·Memᴰ·head as here, List·Memᴰ·tail as there}
-use Prim.Native.Nat.{ℕ, _+_, _*_, _/_, _%_, _≤_, _<_}
-use native.Mathlib.Decide.{decLe}
-use native.Mathlib.Nat.{suc-mul, mul-le-mul-right, mul-pos, mul-div-cancel, mul-mod-left}
+use Prim.Native.Nat.{ℕ, _*_, _≤_, _<_}
+use native.Mathlib.Nat.{mul-le-mul-right}
 use native.Mathlib.Omega.{arith}
 use lib.Dec.{T}
-use lib.ListN.{length, take, length-append}
-use lib.Seq.{drop-at, take-all}
+use lib.ListN.{length, length-map}
 use Rattle.laws.specs.Limits.{Width}
+use Rattle.laws.specs.Lists.{Once}
 use Rattle.laws.specs.Orders.{Falling, downTo}
 use Rattle.laws.specs.Row.{Row}
 use Rattle.laws.specs.Widths.{WidthFacts}
-use Rattle.laws.proofs.Down.{down-map, down-ext, falling-down}
-use Rattle.laws.proofs.Split.{part-front}
+use Rattle.laws.proofs.Down.{down-map, falling-down}
+use Rattle.laws.proofs.Falling.{falling-once}
 use Rattle.laws.proofs.State.{state-le}
+use Rattle.cluster.specs.Reading.{KeepsBytes}
 use Rattle.cluster.specs.Record.{rowOf, bytesOf, hasSpare}
-use Rattle.cluster.specs.Rule.{isKept, keepsRules, Keeps}
+use Rattle.cluster.specs.Rule.{isKept, keepsRules}
 use Rattle.cluster.proofs.Laws.Record.{bytesOf-length, bytesOf-rule, rowOf-bytes}
 use Rattle.cluster.proofs.Laws.Rule.{kept→keeps, keeps→kept, rules→}
 use Rattle.trees.specs.Rows.{clustersOf}
 use Rattle.lists.specs.Records.{recordsIn, bytesAt, listedAt, rowsOf}
 use Rattle.lists.specs.Rows.{rowsTo}
+use Rattle.lists.specs.Joined.{clusterIn}
 use Rattle.lists.specs.Accepted.{Bytes, Accepted, bytesOfRows}
-use Rattle.lists.proofs.Laws.Bytes.{append-bytes, row-bytes}
+use Rattle.lists.proofs.Laws.Bytes.{row-bytes}
+use Rattle.lists.proofs.Laws.Joined.{Sized, joined-length, joined-records, joined-down, joined-bytes, joined-accepted}
 use Rattle.lists.proofs.Laws.Rows.{rows-ascend}
 
 module _ (W : Width) (facts : WidthFacts W) where
-  abbrev size : ℕ
-  size = W .recordBytes
+  -- ---- the bytes of each row are those of a record
+  module _ (rs : List Row) where
+    abbrev each : List (List ℕ)
+    each = map (bytesOf W) rs
 
-  size-pos : 0 < size
-  size-pos = omega (arith, facts .spare)
+    as-many : length each ≡ length rs
+    as-many = length-map rs (bytesOf W)
 
-  row-length : (r : Row) → length (bytesOf W r) ≡ size
-  row-length r = bytesOf-length W r ∙ sym (facts .spare)
+    each-sized : Sized W each
+    each-sized b m = let q = Memᴰ·of-map (bytesOf W) rs m in ap length (sym (q .2)) ∙ bytesOf-length W (q .0) ∙ sym (facts .spare)
 
-  pub written-length : (rs : List Row) → length (bytesOfRows W rs) ≡ length rs * size
-  written-length [] = omega arith
-  written-length (r ∷ rs) =
-      length-append (bytesOfRows W rs) (bytesOf W r)
-      ∙ ap₂ (λ (a b : ℕ). a + b) (written-length rs) (row-length r)
-      ∙ sym (suc-mul (length rs) size)
+    pub written-length : length (bytesOfRows W rs) ≡ length rs * W .recordBytes
+    written-length = joined-length W each each-sized ∙ ap (λ (n : ℕ). n * W .recordBytes) as-many
 
-  pub written-records : (rs : List Row) → recordsIn W (bytesOfRows W rs) ≡ length rs
-  written-records rs = ap (λ (n : ℕ). n / size) (written-length rs) ∙ mul-div-cancel (length rs) size-pos
+    pub written-records : recordsIn W (bytesOfRows W rs) ≡ length rs
+    written-records = joined-records W facts each each-sized ∙ as-many
 
-  -- ---- the records: the last is the first of the rows, and those before it are the others
-  last-bytes : (r : Row) (rs : List Row) → bytesAt W (bytesOfRows W (r ∷ rs)) (length rs) ≡ bytesOf W r
-  last-bytes r rs =
-      ap (take size) (drop-at (bytesOfRows W rs) (bytesOf W r) (length rs * size) (written-length rs))
-      ∙ take-all size (bytesOf W r) (omega (arith, row-length r))
+  read-back : (rs : List Row) → ((r : Row) → Mem r rs → T (keepsRules W r)) → map (rowOf W) (map (bytesOf W) rs) ≡ rs
+  read-back [] h = refl
+  read-back (r ∷ rs) h =
+      ap₂ (λ (x : Row) (xs : List Row). x ∷ xs) (rowOf-bytes W r facts (h r (here refl))) (read-back rs (λ x m. h x (there m)))
 
-  rest-bytes : (r : Row) (rs : List Row) (j : ℕ) → j < length rs → bytesAt W (bytesOfRows W (r ∷ rs)) j ≡ bytesAt W (bytesOfRows W rs) j
-  rest-bytes r rs j h =
-      part-front (bytesOfRows W rs) (bytesOf W r) (j * size) size
-      (omega (arith, written-length rs, suc-mul j size, mul-le-mul-right size h))
+  module _ (rs : List Row) (rules : (r : Row) → Mem r rs → T (keepsRules W r)) where
+    pub written-down : downTo (listedAt W (bytesOfRows W rs)) (length rs) ≡ rs
+    written-down =
+        sym (down-map (rowOf W) (bytesAt W (bytesOfRows W rs)) (length rs))
+        ∙ ap (λ (n : ℕ). map (rowOf W) (downTo (bytesAt W (bytesOfRows W rs)) n)) (sym (as-many rs))
+        ∙ ap (map (rowOf W)) (joined-down W (each rs) (each-sized rs))
+        ∙ read-back rs rules
 
-  pub written-at : (rs : List Row) (j : ℕ) → j < length rs → (r : Row) × Mem r rs × (bytesAt W (bytesOfRows W rs) j ≡ bytesOf W r)
-  written-at [] j h = absurd (omega arith)
-  written-at (r ∷ rs) j h = go (decLe (length rs) j) (written-at rs j)
-    where
-      go : Dec (length rs ≤ j) → (j < length rs → (x : Row) × Mem x rs × (bytesAt W (bytesOfRows W rs) j ≡ bytesOf W x))
-          → (x : Row) × Mem x (r ∷ rs) × (bytesAt W (bytesOfRows W (r ∷ rs)) j ≡ bytesOf W x)
-      go (yes k) ih =
-          let e : j ≡ length rs = omega arith in
-          (r, here refl, ap (bytesAt W (bytesOfRows W (r ∷ rs))) e ∙ last-bytes r rs)
-      go (no k) ih = let q = ih (omega arith) in (q .0, there (q .1), rest-bytes r rs j (omega arith) ∙ q .2)
+    pub written-bytes : Bytes (bytesOfRows W rs)
+    written-bytes = joined-bytes (each rs) byte
+      where
+        byte : (b : List ℕ) → Mem b (each rs) → Bytes b
+        byte b m =
+            let q = Memᴰ·of-map (bytesOf W) rs m in
+            let k = rules→ W (q .0) (rules (q .0) (q .1)) .1 in
+            subst Bytes (q .2) (row-bytes W (q .0) (omega (arith, state-le (q .0 .state) (k .score .has-state))))
 
-  pub written-down : (rs : List Row) → ((r : Row) → Mem r rs → T (keepsRules W r)) → downTo (listedAt W (bytesOfRows W rs)) (length rs) ≡ rs
-  written-down [] h = refl
-  written-down (r ∷ rs) h = ap₂ (λ (x : Row) (xs : List Row). x ∷ xs) last (rest ∙ written-down rs (λ x m. h x (there m)))
-    where
-      last : listedAt W (bytesOfRows W (r ∷ rs)) (length rs) ≡ r
-      last = ap (rowOf W) (last-bytes r rs) ∙ rowOf-bytes W r facts (h r (here refl))
-
-      rest : downTo (listedAt W (bytesOfRows W (r ∷ rs))) (length rs) ≡ downTo (listedAt W (bytesOfRows W rs)) (length rs)
-      rest =
-          down-ext (listedAt W (bytesOfRows W (r ∷ rs))) (listedAt W (bytesOfRows W rs)) (length rs)
-          (λ j k. ap (rowOf W) (rest-bytes r rs j k))
-
-  pub written-bytes : (rs : List Row) → ((r : Row) → Mem r rs → T (keepsRules W r)) → Bytes (bytesOfRows W rs)
-  written-bytes [] h = λ i. omega arith
-  written-bytes (r ∷ rs) h =
-      let k = rules→ W r (h r (here refl)) .1 in
-      append-bytes (bytesOfRows W rs) (bytesOf W r) (written-bytes rs (λ x m. h x (there m)))
-      (row-bytes W r (omega (arith, state-le (r .state) (k .score .has-state))))
+  -- the bytes of a row that keeps the rules
+  keeps-row : (r : Row) → T (keepsRules W r) → KeepsBytes W (bytesOf W r)
+  keeps-row r h =
+      let b = bytesOf W r in
+      kept→keeps (rowOf W b .cluster) (rowOf W b .weight) (rowOf W b .state) (hasSpare W b)
+      (subst T (sym (ap isKept (bytesOf-rule W r facts h)))
+      (keeps→kept (r .cluster) (r .weight) (r .state) false (rules→ W r h .1)))
 
   -- ---- the list of rows in order that keep the rules
   module _ (rs : List Row) (falls : Falling (clustersOf rs)) (rules : (r : Row) → Mem r rs → T (keepsRules W r)) where
@@ -113,21 +101,18 @@ module _ (W : Width) (facts : WidthFacts W) where
         ∙ rows-ascend (listedAt W l) (length rs) ascends
         ∙ written-down rs rules
 
-    -- the bytes of a row that keeps the rules
-    keeps-row : (b : List ℕ) (r : Row) → b ≡ bytesOf W r → T (keepsRules W r)
-        → Keeps (rowOf W b .cluster) (rowOf W b .weight) (rowOf W b .state) (hasSpare W b)
-    keeps-row b r e h =
-        let kept = keeps→kept (r .cluster) (r .weight) (r .state) false (rules→ W r h .1) in
-        kept→keeps (rowOf W b .cluster) (rowOf W b .weight) (rowOf W b .state) (hasSpare W b)
-        (rw e (subst T (sym (ap isKept (bytesOf-rule W r facts h))) kept))
+    each-keeps : (b : List ℕ) → Mem b (each rs) → KeepsBytes W b
+    each-keeps b m =
+        let q = Memᴰ·of-map (bytesOf W) rs m in
+        subst (KeepsBytes W) (q .2) (keeps-row (q .0) (rules (q .0) (q .1)))
+
+    each-once : Once (map (clusterIn W) (each rs))
+    each-once = subst Once (sym same) (falling-once (clustersOf rs) falls)
+      where
+        same : map (clusterIn W) (each rs) ≡ clustersOf rs
+        same = sym (map-map (λ (r : Row). r .cluster) (rowOf W) (each rs)) ∙ ap clustersOf (read-back rs rules)
 
     pub written-accepted : 1 ≤ length rs → length rs ≤ W .rows → Accepted W (bytesOfRows W rs)
-    written-accepted some few = record {
-      filled = λ (e : length l ≡ 0). omega (arith, written-length rs, mul-pos some size-pos);
-      short = rw (written-length rs, facts .whole) (mul-le-mul-right size few);
-      whole = ap (λ (n : ℕ). n % size) (written-length rs) ∙ mul-mod-left (length rs) size;
-      kept = λ i h.
-          let q = written-at rs i (omega (arith, written-records rs)) in
-          keeps-row (bytesAt W l i) (q .0) (q .2) (rules (q .0) (q .1));
-      once = λ i h q. omega (arith, q .2, ascends (q .0) i (q .1) (omega (arith, written-records rs)));
-    }
+    written-accepted some few =
+        joined-accepted W facts (each rs) (each-sized rs) (rw (as-many rs) some)
+        (rw (as-many rs, facts .whole) (mul-le-mul-right (W .recordBytes) few)) each-keeps each-once
