@@ -12,6 +12,8 @@ pub mod Listing
 pub mod RecordBytes
 -- records put one after the other
 pub mod Joined
+-- a list with its unscored records left out
+pub mod Blanks
 -- rows written one after the other
 pub mod Written
 -- records read, one after another

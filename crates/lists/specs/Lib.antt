@@ -3,7 +3,7 @@
 pub mod Rows
 -- the records of a list
 pub mod Records
--- records put one after the other
+-- records put one after the other, and a list with its unscored records left out
 pub mod Joined
 -- reading a list: its reasons and its outcome
 pub mod Listing
