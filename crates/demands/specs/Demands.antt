@@ -25,6 +25,7 @@ use lib.IntN.{ℤ}
 use lib.ListN.{length, take, drop}
 use Rattle.laws.specs.Cluster.{inside}
 use Rattle.laws.specs.Limits.{Width, narrow, isDegree, rowCap}
+use Rattle.laws.specs.Lists.{keep}
 use Rattle.laws.specs.Row.{Row, isScored}
 use Rattle.trees.specs.Heaviest.{weightOf, tieFirst}
 use Rattle.trees.specs.Built.{rowLength, builtTable}
@@ -45,7 +46,7 @@ use Rattle.cluster.specs.Writing.{writeRecord}
 use Rattle.lists.specs.Records.{recordsIn, listedAt, rowsOf}
 use Rattle.lists.specs.Listing.{listed, readList}
 use Rattle.lists.specs.Accepted.{Bytes, Accepted, HasCluster}
-use Rattle.lists.specs.Joined.{withoutBlanks}
+use Rattle.lists.specs.Joined.{recordsDown, hasScore, withoutBlanks}
 use Rattle.gel.specs.Lines.{widthOf}
 use Rattle.gel.specs.Columns.{columnsWith, sheetRows}
 use Rattle.gel.specs.Facts.{IsRead, GivenBy, AreLines, SheetCluster, SheetRow, Numbered}
@@ -250,7 +251,8 @@ pub record Reworks : Type 0 where
 -- ---- blanks: records without a score
 
 pub record BlankLanes : Type 0 where
-  -- a list with its unscored records left out has the scored ones, and is accepted where there is one
+  -- a list with its unscored records left out has the scored ones, unchanged and in their order, and is accepted where there is one
+  pub records : (l : List ℕ) → AcceptedBytes narrow l → recordsDown narrow (withoutBlanks narrow l) ≡ keep (hasScore narrow) (recordsDown narrow l)
   pub left : (l : List ℕ) → AcceptedBytes narrow l → (r : Row)
       → Mem r (rowsOf narrow (withoutBlanks narrow l)) ↔ (Mem r (rowsOf narrow l) × T (isScored r))
   pub accepted : (l : List ℕ) → AcceptedBytes narrow l → (r : Row) → Mem r (rowsOf narrow l) → T (isScored r)

@@ -9,7 +9,7 @@ use Rattle.laws.specs.Row.{Row, isScored}
 use Rattle.laws.proofs.Width.{narrow-facts}
 use Rattle.lists.specs.Records.{rowsOf}
 use Rattle.lists.specs.Joined.{withoutBlanks}
-use Rattle.lists.proofs.Laws.Blanks.{blanks-bytes, blanks-accepted, blanks-rows}
+use Rattle.lists.proofs.Laws.Blanks.{blanks-bytes, blanks-records, blanks-accepted, blanks-rows}
 use Rattle.table.specs.Changes.{AcceptedBytes}
 use Rattle.demands.specs.Blanks.{SameScored, SameAnswers}
 use Rattle.demands.specs.Demands.{BlankLanes}
@@ -34,6 +34,7 @@ module _ (l : List ℕ) (a : AcceptedBytes narrow l) where
 
 pub blank-lanes : BlankLanes
 blank-lanes = record {
+  records = λ l a. blanks-records narrow narrow-facts l (a .byte) (a .accepted);
   left = λ l a r. blanks-rows narrow narrow-facts l (a .byte) (a .accepted) r;
   accepted = left-accepted;
   same = λ l d a q. left-same l a d q;
