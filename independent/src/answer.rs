@@ -5,7 +5,7 @@ use std::cell::RefCell;
 
 use crate::blocks::Joint;
 use crate::formulas::{Edit, judge, rescore, work_out};
-use crate::newick::{drawn_tree, line, text};
+use crate::newick::{drawn_tree, drawn_with_leaves_of, line, text};
 use crate::records::{Refusal, Row, list_bytes, raw_bytes, read_list, read_record, refuse};
 use crate::rules::OverBudget;
 use crate::sheets::import;
@@ -84,8 +84,8 @@ impl Oracle {
                 put_table(&mut out, &after);
             }
             Ask::Fit { table } => out.push(table.is_fit() as u8),
-            Ask::Tree { table, room } => self.tree_answer(&mut out, table, room),
-            Ask::Text { table, room } => self.text_answer(&mut out, table, room),
+            Ask::Tree { table, room } => put_tree(&mut out, &drawn_tree(table, self.rules), room),
+            Ask::Text { table, room } => put_text(&mut out, &drawn_tree(table, self.rules), room),
             Ask::Line { d, list, room } => {
                 let built = self.build(*d, list, &origin.joints)?;
                 let said = line(*d, built.as_ref().map_err(|r| *r), self.rules);
@@ -114,7 +114,8 @@ impl Oracle {
 
     /// The table of good records, by the method in force.
     pub fn table(&self, d: u32, rows: &[Row], joints: &[Joint]) -> Result<Table, OverBudget> {
-        let key: Key = (self.rules.variant, d, ascending(rows));
+        let in_rows = self.rules.variant.filter(|v| v.is_in_rows());
+        let key: Key = (in_rows, d, ascending(rows));
         if self.method == Method::Formulas {
             let mut table = Table::of_rows(d, &key.2);
             for i in 0..key.2.len() {
@@ -186,18 +187,6 @@ impl Oracle {
         Ok(after)
     }
 
-    fn tree_answer(&self, out: &mut Vec<u8>, table: &Table, room: &[u32]) {
-        let mut after = room.to_vec();
-        let drawn = drawn_tree(table, self.rules);
-        put_sent(out, drawn.and_then(|members| lay(&members, &mut after)));
-        put_numbers(out, &after);
-    }
-
-    fn text_answer(&self, out: &mut Vec<u8>, table: &Table, room: &[u8]) {
-        let drawn = drawn_tree(table, self.rules).map(|members| text(&members));
-        put_room(out, drawn.as_ref().map(|t| t.as_bytes()).map_err(|r| *r), room);
-    }
-
     fn whole_answer(
         &self,
         out: &mut Vec<u8>,
@@ -212,8 +201,11 @@ impl Oracle {
         let table = built.unwrap_or(Table::zero());
         let after = self.rescored(out, &table, edits, &origin)?;
         put_table(out, &after);
-        self.tree_answer(out, &after, &[0xAAAA_AAAA; 128]);
-        self.text_answer(out, &after, &[0xAA; 256]);
+        let too_early = self.rules.has(Variant::LeafSetBeforeRescoring);
+        let leaves_of = if too_early { &table } else { &after };
+        let drawn = drawn_with_leaves_of(&after, leaves_of, self.rules);
+        put_tree(out, &drawn, &[0xAAAA_AAAA; 128]);
+        put_text(out, &drawn, &[0xAA; 256]);
         Ok(())
     }
 
@@ -245,6 +237,19 @@ fn read_answer(out: &mut Vec<u8>, bytes: &[u8]) {
 fn write_answer(out: &mut Vec<u8>, bytes: [u8; 12], room: &[u8]) {
     let written = read_record(&bytes).map(|_| &bytes[..]);
     put_room(out, written, room);
+}
+
+type Drawn = Result<Vec<u32>, Refusal>;
+
+fn put_tree(out: &mut Vec<u8>, drawn: &Drawn, room: &[u32]) {
+    let mut after = room.to_vec();
+    put_sent(out, drawn.as_ref().map_err(|r| *r).and_then(|members| lay(members, &mut after)));
+    put_numbers(out, &after);
+}
+
+fn put_text(out: &mut Vec<u8>, drawn: &Drawn, room: &[u8]) {
+    let drawn = drawn.as_ref().map(|members| text(members));
+    put_room(out, drawn.as_ref().map(|t| t.as_bytes()).map_err(|r| **r), room);
 }
 
 /// SENT and the room after bytes were written into it, if they were.

@@ -6,6 +6,7 @@ use std::collections::BTreeMap;
 
 use crate::stream::{Ask, Input, OPERATIONS};
 use crate::table::Table;
+use crate::variants::Rules;
 
 /// What the sheets have to show between them.
 const SHOWN: [&str; 10] = [
@@ -104,7 +105,7 @@ impl Coverage {
         if table.n == 0 {
             return;
         }
-        let top = table.row_of(table.leaf_set());
+        let top = table.leaf_row(Rules::TRUE);
         let digits = match top {
             Some(top) if table.marks[top] == 1 => 99,
             Some(top) if table.counts[top] > 0 => table.counts[top].ilog10() + 1,

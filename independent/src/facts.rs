@@ -2,8 +2,8 @@
 //! against the trees found by trying sets, and against a probe if there is
 //! one. From what a tree is and the tie rule (RULES 3 and 4), with Table 1 of
 //! Bryant and Steel, "Constructing Optimal Trees from Quartets", and the
-//! example of section 4.2 of Bryant's thesis as lists. The sheets that were
-//! worked out by hand are told with them.
+//! example of section 4.2 of Bryant's thesis as lists. The sheets and
+//! the lists that were worked out by hand are told with them.
 //!
 //! With all weights zero the first tree takes, from the largest number down,
 //! every cluster it can: of an interval, or of all clusters, these are the
@@ -22,7 +22,7 @@ use crate::solve::{ascending, table_of, trees_of_rows};
 use crate::stream::{Ask, put_sent, put_table};
 use crate::table::{Results, Table};
 use crate::variants::Rules;
-use crate::worked;
+use crate::{worked, worked_lists};
 
 /// Trees that are tried for a fact, at most.
 const TRIED: u128 = 3_000_000;
@@ -184,7 +184,7 @@ pub fn run(probe: Option<&Path>) -> io::Result<bool> {
         );
         good &= agrees && asked.is_none_or(|a| a == "same");
     }
-    Ok(good & worked::run(probe)?)
+    Ok(good & worked::run(probe)? & worked_lists::run(probe)?)
 }
 
 /// The trees of a fact's list by trying sets, if there are not too many.

@@ -33,3 +33,4 @@ pub mod tuples;
 pub mod unbuilt;
 pub mod variants;
 pub mod worked;
+pub mod worked_lists;

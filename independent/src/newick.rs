@@ -8,15 +8,24 @@ use crate::variants::Rules;
 
 /// The tree that a table's leaf-set row marks, ascending.
 pub fn drawn_tree(table: &Table, rules: Rules) -> Result<Vec<u32>, Refusal> {
+    drawn_with_leaves_of(table, table, rules)
+}
+
+/// The same with the leaf set of another table, which has the same clusters.
+pub fn drawn_with_leaves_of(
+    table: &Table,
+    other: &Table,
+    rules: Rules,
+) -> Result<Vec<u32>, Refusal> {
     if !table.is_fit() {
         return Err(refuse(8));
     }
-    marked_tree(table, rules)
+    let top = other.leaf_row(rules).ok_or(refuse(7))?;
+    marked_tree(table, top, rules)
 }
 
-/// The same for a table known to be fit.
-fn marked_tree(table: &Table, rules: Rules) -> Result<Vec<u32>, Refusal> {
-    let top = table.row_of(table.leaf_set()).ok_or(refuse(7))?;
+/// The tree that one row of a fit table marks.
+fn marked_tree(table: &Table, top: usize, rules: Rules) -> Result<Vec<u32>, Refusal> {
     if table.counts[top] == 0 {
         return Err(refuse(7));
     }
@@ -50,14 +59,16 @@ fn vertex(members: &[u32], cluster: u32) -> String {
 
 /// The line that the program prints for one degree bound, with its line end.
 pub fn line(d: u32, built: Result<&Table, Refusal>, rules: Rules) -> String {
-    let drawn = built.and_then(|t| marked_tree(t, rules).map(|m| (t, m)));
+    let drawn = built.and_then(|table| {
+        let top = table.leaf_row(rules).ok_or(refuse(7))?;
+        Ok((table, top, marked_tree(table, top, rules)?))
+    });
     match drawn {
         Err(Refusal { number, position }) if number == 5 || number == 6 => {
             format!("{d} refused {number} at {position}\n")
         }
         Err(refusal) => format!("{d} refused {}\n", refusal.number),
-        Ok((table, members)) => {
-            let top = table.row_of(table.leaf_set()).unwrap();
+        Ok((table, top, members)) => {
             let count = if table.marks[top] == 1 {
                 "many".to_string()
             } else {

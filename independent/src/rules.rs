@@ -1,4 +1,4 @@
-//! What a tree is, the tie rule, and the search that tries sets of clusters.
+//! The leaf set, what a tree is, the tie rule, and the search that tries sets of clusters.
 //! From RULES 3 and 4.
 //!
 //! Each many-taxon cluster inside the top is taken or left out, and whatever
@@ -19,6 +19,13 @@ pub fn agree(a: u32, b: u32) -> bool {
 /// `small` is inside `large`, or is `large`.
 pub fn inside(small: u32, large: u32) -> bool {
     small & !large == 0
+}
+
+/// The leaf set: the union of the scored clusters. With none scored it is
+/// empty, and no cluster is.
+pub fn leaf_set(rows: &[Row], rules: Rules) -> u32 {
+    let counted = rows.iter().filter(|r| rules.in_leaf_set(r.scored, r.weight));
+    counted.fold(0, |union, row| union | row.cluster)
 }
 
 /// The largest members, by inclusion, strictly inside `member`.

@@ -2,7 +2,7 @@
 //! each variant, in how many cases its expected answer is not the true one.
 //! And the program against itself: trying sets against the formulas, lists
 //! from parts against plain trying, found sets against the rule of a tree,
-//! sheets against the columns that they were made of, and those worked by hand.
+//! sheets against the columns that they were made of, and what was worked by hand.
 //! Checks the readings of RULES 3 to 7 and 13.
 
 use crate::answer::{Method, Oracle, Origin};
@@ -24,6 +24,7 @@ use crate::stream::{KINDS, OPERATIONS};
 use crate::unbuilt::random_fit;
 use crate::variants::{ALL, Rules};
 use crate::worked::worked_sheets;
+use crate::worked_lists::worked_lists;
 
 /// True if every variant shows and nothing disagrees.
 pub fn run(seed: u64, count: u64) -> bool {
@@ -36,6 +37,7 @@ pub fn run(seed: u64, count: u64) -> bool {
         ("sheets against their columns", sheets_as_made(seed)),
         ("sheets at fault", faults_as_said(seed)),
         ("sheets worked by hand", worked_sheets().iter().filter(|w| !w.agrees()).count()),
+        ("lists worked by hand", worked_lists().iter().filter(|w| !w.agrees()).count()),
     ];
     for (says, wrong) in agreed {
         println!("{says}: {wrong} wrong");

@@ -19,10 +19,12 @@ use crate::stream::Ask;
 use crate::table::Table;
 use crate::unbuilt::random_fit;
 use crate::variants::Rules;
+use crate::worked_lists::worked_lists;
 
 pub fn specials(rng: &mut Prng) -> Vec<Case> {
     let mut all = Vec::new();
     bench_examples(&mut all, rng);
+    worked_by_hand(&mut all, rng);
     list_ends(&mut all, rng);
     refused_lists(&mut all, rng);
     record_edges(&mut all, rng);
@@ -89,12 +91,18 @@ fn bench_examples(all: &mut Vec<Case>, rng: &mut Prng) {
             asked_throughout(all, rng, d, &made);
         }
         let edits = vec![Edit { cluster: 3, weight: 5, state: 1 }];
-        let list = list_bytes(&house());
-        let says = "house list, {0,1} rescored to 5";
-        let origin = Origin { built: true, joints: Vec::new() };
-        add(all, Ask::Whole { d, list, edits: edits.clone() }, &origin, says);
-        let table = Box::new(built(d, &made(house(), "house list")).table);
-        add(all, Ask::Rescore { table, edits }, &origin, says);
+        rescored_by(all, d, &made(house(), "house list, {0,1} at 5"), edits);
+    }
+}
+
+/// The lists worked out by hand, as they stand after their rescorings, and the
+/// rescorings themselves.
+fn worked_by_hand(all: &mut Vec<Case>, rng: &mut Prng) {
+    for worked in worked_lists() {
+        asked_throughout(all, rng, worked.d, &made(worked.rescored(), &worked.says));
+        if !worked.edits.is_empty() {
+            rescored_by(all, worked.d, &made(worked.rows, &worked.says), worked.edits);
+        }
     }
 }
 
@@ -409,6 +417,11 @@ fn counts_at_limit(all: &mut Vec<Case>, rng: &mut Prng) {
 fn rescored_list(all: &mut Vec<Case>, rng: &mut Prng, d: u32, made: &Made) {
     let given = built(d, made);
     let edits = random_edits(rng, &given.table, 3);
+    rescored_by(all, d, made, edits);
+}
+
+fn rescored_by(all: &mut Vec<Case>, d: u32, made: &Made, edits: Vec<Edit>) {
+    let given = built(d, made);
     let says = format!("rescored, {}", given.says);
     let list = list_bytes(&made.rows);
     add(all, Ask::Whole { d, list, edits: edits.clone() }, &given.origin, &says);

@@ -3,6 +3,8 @@
 //! table holds.
 
 use crate::records::{Row, lawful};
+use crate::rules::leaf_set;
+use crate::variants::{Rules, Variant};
 
 pub const ROOM: usize = 128;
 pub const COUNT_END: u64 = 4_294_967_295;
@@ -98,9 +100,13 @@ impl Table {
         (0..self.n as usize).find(|&i| self.clusters[i] == cluster)
     }
 
-    /// The union of the clusters of a fit table.
-    pub fn leaf_set(&self) -> u64 {
-        self.clusters[..self.n as usize].iter().fold(0, |u, c| u | c)
+    /// The row of the leaf set, for a table that is fit. It may stand anywhere:
+    /// the rows behind it are unscored ones with taxa of their own.
+    pub fn leaf_row(&self, rules: Rules) -> Option<usize> {
+        if rules.has(Variant::LastRowTaken) {
+            return (self.n as usize).checked_sub(1);
+        }
+        self.row_of(leaf_set(&self.rows(), rules) as u64)
     }
 
     pub fn is_fit(&self) -> bool {

@@ -80,7 +80,7 @@ pub fn bent(rng: &mut Prng, table: &Table) -> Table {
 /// The row of the leaf set, if a tree can be drawn.
 fn drawn_row(table: &Table) -> Option<usize> {
     drawn_tree(table, Rules::TRUE).ok()?;
-    table.row_of(table.leaf_set())
+    table.leaf_row(Rules::TRUE)
 }
 
 /// A table whose leaf-set row marks some other tree, with that tree's weight;

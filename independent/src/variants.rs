@@ -1,4 +1,4 @@
-//! The ten mistakes that students make (docs/COMPARED.md), each of which can
+//! The fourteen mistakes that students make (docs/COMPARED.md), each of which can
 //! be switched on in the expected answers. A count at its limit has two sides
 //! and makes two of them. A comparison that is any good tells each of them
 //! from the truth.
@@ -16,9 +16,17 @@ pub enum Variant {
     /// The number of `?` columns is still told.
     UnreadAsZero,
     EqualColumnsOnce,
+    /// The leaf set is the union of all clusters, the unscored ones too.
+    UnscoredCounted,
+    /// A scored nought puts no taxa into the leaf set.
+    NoughtLeftOut,
+    /// A tree is drawn from the last row, whatever the leaf set is.
+    LastRowTaken,
+    /// After rescorings the leaf set is still that of the list as built.
+    LeafSetBeforeRescoring,
 }
 
-pub const ALL: [Variant; 10] = [
+pub const ALL: [Variant; 14] = [
     Variant::UnscoredAsZero,
     Variant::Greedy,
     Variant::OneChildMore,
@@ -29,6 +37,10 @@ pub const ALL: [Variant; 10] = [
     Variant::OnlyEditedRow,
     Variant::UnreadAsZero,
     Variant::EqualColumnsOnce,
+    Variant::UnscoredCounted,
+    Variant::NoughtLeftOut,
+    Variant::LastRowTaken,
+    Variant::LeafSetBeforeRescoring,
 ];
 
 impl Variant {
@@ -44,7 +56,23 @@ impl Variant {
             Variant::OnlyEditedRow => "only-edited-row",
             Variant::UnreadAsZero => "unread-as-zero",
             Variant::EqualColumnsOnce => "equal-columns-once",
+            Variant::UnscoredCounted => "unscored-counted",
+            Variant::NoughtLeftOut => "nought-left-out",
+            Variant::LastRowTaken => "last-row-taken",
+            Variant::LeafSetBeforeRescoring => "leaf-set-before-rescoring",
         }
+    }
+
+    /// Whether the mistake shows in the rows of a table. Those about the leaf
+    /// set show only where something is drawn.
+    pub fn is_in_rows(self) -> bool {
+        !matches!(
+            self,
+            Variant::UnscoredCounted
+                | Variant::NoughtLeftOut
+                | Variant::LastRowTaken
+                | Variant::LeafSetBeforeRescoring
+        )
     }
 
     pub fn named(name: &str) -> Option<Variant> {
@@ -73,5 +101,14 @@ impl Rules {
     /// Whether a listed cluster may stand in a tree.
     pub fn usable(self, scored: bool) -> bool {
         scored || self.has(Variant::UnscoredAsZero)
+    }
+
+    /// Whether the taxa of a listed cluster are in the leaf set.
+    pub fn in_leaf_set(self, scored: bool, weight: i32) -> bool {
+        match self.variant {
+            Some(Variant::UnscoredCounted) => true,
+            Some(Variant::NoughtLeftOut) => scored && weight != 0,
+            _ => self.usable(scored),
+        }
     }
 }
