@@ -3,8 +3,10 @@
 //! drawn at random. Covers every section of docs/RULES.md.
 
 use crate::answer::{Oracle, Origin};
+use crate::blanks::leaf_edits;
 use crate::blocks::Made;
 use crate::broken::{BREAKS, Change, EDGES};
+use crate::formulas::{Edit, rescore};
 use crate::gels::random_gel;
 use crate::given::{Case, Given, built, random_edits};
 use crate::limits::random_made;
@@ -18,7 +20,9 @@ use crate::smudged::smudged;
 use crate::special::specials;
 use crate::stream::{Ask, KINDS, OPERATIONS};
 use crate::table::Table;
-use crate::unbuilt::{bent, marked_unscored, marks_off, other_tree, random_fit, too_many_children};
+use crate::unbuilt::{
+    bent, blanked, marked_unscored, marks_off, other_tree, random_fit, too_many_children,
+};
 use crate::variants::Rules;
 
 pub struct Generator {
@@ -169,12 +173,17 @@ fn made_up(table: Table, says: &str) -> Given {
 
 /// A fit table that no build made.
 fn random_unbuilt(rng: &mut Prng) -> Given {
-    if rng.chance(50) {
-        return made_up(random_fit(rng), "made up and fit");
+    let given = if rng.chance(50) {
+        made_up(random_fit(rng), "made up and fit")
+    } else {
+        let from = random_built(rng);
+        let table = bent(rng, &from.table);
+        made_up(table, &format!("bent, {}", from.says))
+    };
+    if rng.chance(80) {
+        return given;
     }
-    let from = random_built(rng);
-    let table = bent(rng, &from.table);
-    made_up(table, &format!("bent, {}", from.says))
+    made_up(blanked(rng, &given.table), &format!("rows unscored, {}", given.says))
 }
 
 /// A table changed by one of `changes`, from any fit one.
@@ -203,6 +212,14 @@ fn fit_case(rng: &mut Prng) -> Case {
     plain(Ask::Fit { table: Box::new(given.table) }, given.says)
 }
 
+/// Rescorings of any rows, or such as bear on the leaf set.
+fn some_edits(rng: &mut Prng, table: &Table, many: usize) -> Vec<Edit> {
+    if table.is_fit() && rng.chance(30) {
+        return leaf_edits(rng, table);
+    }
+    random_edits(rng, table, many)
+}
+
 fn rescore_case(rng: &mut Prng) -> Case {
     let given = match rng.below(20) {
         0..=8 => random_built(rng),
@@ -211,9 +228,18 @@ fn rescore_case(rng: &mut Prng) -> Case {
         _ => broken(rng),
     };
     let many = rng.pick(&[0, 1, 1, 2, 3, 5]);
-    let edits = random_edits(rng, &given.table, many);
-    let says = format!("{many} rescorings of a table {}", given.says);
+    let edits = some_edits(rng, &given.table, many);
+    let says = format!("{} rescorings of a table {}", edits.len(), given.says);
     Case { ask: Ask::Rescore { table: Box::new(given.table), edits }, origin: given.origin, says }
+}
+
+/// A fit table after rescorings that bear on its leaf set.
+fn rescored(rng: &mut Prng, table: &Table) -> Table {
+    let mut after = table.clone();
+    for edit in leaf_edits(rng, table) {
+        rescore(&mut after, edit, Rules::TRUE).expect("each row is named as it stands");
+    }
+    after
 }
 
 /// A table from which a tree is to be drawn.
@@ -231,6 +257,7 @@ fn table_to_draw(rng: &mut Prng) -> Given {
         6..=7 => (too_many_children(rng, &from.table), "a tree for a larger bound marked"),
         8..=9 => (marks_off(rng, &from.table), "marks a little off"),
         10 => (marked_unscored(rng, &from.table), "a marked row unscored"),
+        11 => (Some(rescored(rng, &from.table)), "rescored"),
         _ => (None, ""),
     };
     match table {
@@ -261,8 +288,8 @@ fn whole_case(rng: &mut Prng) -> Case {
     let (d, list, made) = list_for(rng);
     let built = Oracle::TRUE.build(d, &list, &made.joints).expect("the list was tried before");
     let many = rng.pick(&[0, 1, 1, 2, 3, 6]);
-    let edits = random_edits(rng, &built.unwrap_or(Table::zero()), many);
-    let says = format!("d = {d}, {}, {many} rescorings", made.says);
+    let edits = some_edits(rng, &built.unwrap_or(Table::zero()), many);
+    let says = format!("d = {d}, {}, {} rescorings", made.says, edits.len());
     from_list(Ask::Whole { d, list, edits }, &made, says)
 }
 

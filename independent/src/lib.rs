@@ -4,6 +4,7 @@
 //! comparison itself.
 
 pub mod answer;
+pub mod blanks;
 pub mod blocks;
 pub mod broken;
 pub mod cases;

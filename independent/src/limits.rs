@@ -94,11 +94,38 @@ pub fn many_beside_none(rng: &mut Prng, d: u32) -> Made {
 
 /// A random list from parts, some of its clusters unscored.
 pub fn random_made(rng: &mut Prng, d: u32) -> Made {
+    if rng.chance(25) {
+        return under_blank(rng, d);
+    }
     let top = random_top(rng);
     let mut made = dressed(rng, &top.clusters(), top.joints(d), "from random parts".into());
     let percent = rng.pick(&[0, 0, 3, 10]);
     for row in &mut made.rows {
         if row.cluster.count_ones() > 1 && rng.chance(percent) {
+            *row = Row::unscored(row.cluster);
+        }
+    }
+    made
+}
+
+/// A random list from parts, with one taxon more and the cluster over all of
+/// it, both unscored: the leaf set is the top of the parts.
+fn under_blank(rng: &mut Prng, d: u32) -> Made {
+    let (parts, taxa) = loop {
+        let parts = random_top(rng);
+        let taxa = parts.cluster().count_ones();
+        if taxa < 32 && parts.clusters().len() <= 126 {
+            break (parts, taxa);
+        }
+    };
+    let top = Top::Join(vec![parts, Top::Block(vec![1 << taxa])]);
+    let says = "from random parts, under a blank".into();
+    let mut made = dressed(rng, &top.clusters(), top.joints(d), says);
+    let over = made.rows.iter().fold(0, |union, row| union | row.cluster);
+    let parts = made.rows.iter().map(|r| r.cluster).filter(|&c| c != over);
+    let parts = parts.max_by_key(|c| c.count_ones()).expect("a top has parts");
+    for row in &mut made.rows {
+        if [over, over & !parts].contains(&row.cluster) {
             *row = Row::unscored(row.cluster);
         }
     }

@@ -1,10 +1,11 @@
 //! Random lists of good records, of many shapes: few taxa with any clusters,
 //! trees laid over one another, intervals, caterpillars, groups under a top,
 //! and clusters that hardly fit together. Written against the rules on records
-//! and trees (RULES 2 to 4): ties, negative weights, unscored records, any
-//! order, lists with no tree.
+//! and trees (RULES 2 to 4): ties, negative weights, unscored records that
+//! stand to the leaf set in every way, any order, lists with no tree.
 
 use crate::answer::Oracle;
+use crate::blanks::blanked;
 use crate::blocks::{Made, full_block};
 use crate::prng::Prng;
 use crate::records::{Row, WEIGHT_END};
@@ -34,7 +35,8 @@ pub fn random_rows(rng: &mut Prng) -> (Vec<Row>, String) {
     clusters.truncate(128);
     let mut rows = weigh(rng, &clusters);
     spoil(rng, &mut rows);
-    let says = format!("{} records, {shape}", rows.len());
+    let blanks = if rng.chance(35) { blanked(rng, &mut rows) } else { String::new() };
+    let says = format!("{} records, {shape}{blanks}", rows.len());
     (rows, says)
 }
 

@@ -131,7 +131,9 @@ fn sets_against_rule(seed: u64) -> usize {
         let (rows, _) = random_rows(rng);
         let rows = ascending(&rows);
         let d = 3 + rng.below(3) as u32;
-        let top = rows.len() - 1;
+        let Some(top) = rows.iter().rposition(|r| r.scored) else {
+            continue;
+        };
         let scored = rows.iter().enumerate().filter(|(_, r)| r.scored);
         let usable = scored.fold(0u128, |m, (i, _)| m | 1 << i);
         let mut seen = Vec::new();

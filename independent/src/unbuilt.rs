@@ -1,6 +1,6 @@
 //! Fit tables that no build made: random results that keep every sentence of
-//! what a fit table is, built tables bent in some rows, and tables that mark
-//! another tree. From RULES 6.
+//! what a fit table is, built tables bent in some rows, tables with rows
+//! unscored, and tables that mark another tree. From RULES 6.
 
 use crate::lists::random_rows;
 use crate::newick::drawn_tree;
@@ -112,7 +112,9 @@ pub fn too_many_children(rng: &mut Prng, table: &Table) -> Option<Table> {
 pub fn marks_off(rng: &mut Prng, table: &Table) -> Option<Table> {
     let top = drawn_row(table)?;
     let mut off = table.clone();
-    let i = rng.below(table.n as usize);
+    let inside = |&i: &usize| table.clusters[i] & !table.clusters[top] == 0;
+    let within: Vec<usize> = (0..=top).filter(inside).collect();
+    let i = rng.pick(&within);
     match rng.below(5) {
         0 => off.bests[top] += rng.pick(&[-1, 1]),
         1 => off.members[top] |= 1 << i,
@@ -122,10 +124,7 @@ pub fn marks_off(rng: &mut Prng, table: &Table) -> Option<Table> {
             let by = table.weights[i] as i64;
             off.bests[top] += if off.members[top] >> i & 1 == 1 { by } else { -by };
         }
-        _ => {
-            let small = (table.n as usize).min(top + 1);
-            off.members[top] = 1 << top | 1 << rng.below(small);
-        }
+        _ => off.members[top] = 1 << top | 1 << i,
     }
     Some(off)
 }
@@ -138,8 +137,30 @@ pub fn marked_unscored(rng: &mut Prng, table: &Table) -> Option<Table> {
     let i = *marked.get(rng.below(marked.len().max(1)))?;
     let mut off = table.clone();
     off.bests[top] -= off.weights[i] as i64;
-    off.weights[i] = 0;
-    off.states[i] = 0;
-    off.set_results(i, Results::default());
+    unscore(&mut off, i);
     Some(off)
+}
+
+/// A row becomes unscored, and nothing is worked out again.
+fn unscore(table: &mut Table, i: usize) {
+    table.weights[i] = 0;
+    table.states[i] = 0;
+    table.set_results(i, Results::default());
+}
+
+/// A fit table with the leaf set's row unscored, or all rows that hold one
+/// taxon, or all; the other rows stay as they are.
+pub fn blanked(rng: &mut Prng, table: &Table) -> Table {
+    let top = table.leaf_row(Rules::TRUE);
+    let some = table.clusters[rng.below(table.n as usize)];
+    let taxon = some & some.wrapping_neg();
+    let way = rng.below(8);
+    let goes = |&i: &usize| match way {
+        0 => true,
+        1..=3 => table.clusters[i] & taxon != 0,
+        _ => Some(i) == top,
+    };
+    let mut blanked = table.clone();
+    (0..table.n as usize).filter(goes).for_each(|i| unscore(&mut blanked, i));
+    blanked
 }
