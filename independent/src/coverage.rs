@@ -1,9 +1,11 @@
 //! What the generated cases cover, from their true answers: how often each
 //! refusal (RULES 8) is met by each operation, how many trees the built lists
-//! have, and what the sheets show, where nothing may be missing.
+//! have, and what the sheets and the leaf sets show, where nothing may be
+//! missing.
 
 use std::collections::BTreeMap;
 
+use crate::leaf_coverage::LeafCoverage;
 use crate::stream::{Ask, Input, OPERATIONS};
 use crate::table::Table;
 use crate::variants::Rules;
@@ -54,11 +56,13 @@ pub struct Coverage {
     /// Sheets by what they show.
     sheets: [u64; SHOWN.len()],
     most_records: u64,
+    leaves: LeafCoverage,
 }
 
 impl Coverage {
     pub fn note(&mut self, ask: &Ask, answer: &[u8]) {
         let operation = ask.operation();
+        self.leaves.note(ask, answer);
         match ask {
             Ask::Fit { .. } => self.fit[answer[0] as usize] += 1,
             Ask::Line { .. } => self.note_line(answer),
@@ -135,10 +139,13 @@ impl Coverage {
         let sheets: Vec<String> =
             SHOWN.iter().zip(self.sheets).map(|(says, times)| format!("{says}: {times}")).collect();
         println!("sheets: {}; most records {}", sheets.join(", "), self.most_records);
+        self.leaves.print();
     }
 
-    /// What no sheet showed.
-    pub fn sheets_missing(&self) -> Vec<&'static str> {
-        SHOWN.into_iter().zip(self.sheets).filter(|(_, times)| *times == 0).map(|s| s.0).collect()
+    /// What no sheet showed, and what no leaf set did.
+    pub fn missing(&self) -> Vec<String> {
+        let unshown = SHOWN.into_iter().zip(self.sheets).filter(|(_, times)| *times == 0);
+        let sheets = unshown.map(|(says, _)| format!("import: {says}"));
+        sheets.chain(self.leaves.missing()).collect()
     }
 }

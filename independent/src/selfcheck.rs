@@ -2,7 +2,8 @@
 //! each variant, in how many cases its expected answer is not the true one.
 //! And the program against itself: trying sets against the formulas, lists
 //! from parts against plain trying, found sets against the rule of a tree,
-//! sheets against the columns that they were made of, and what was worked by hand.
+//! lines against those of the scored records alone, sheets against the columns
+//! that they were made of, and sheets and lists against what was worked by hand.
 //! Checks the readings of RULES 3 to 7 and 13.
 
 use crate::answer::{Method, Oracle, Origin};
@@ -13,7 +14,8 @@ use crate::compare::{expected, tried};
 use crate::coverage::Coverage;
 use crate::gels::{Column, Gel, crowd, mixed, random_gel};
 use crate::limits::{CHAINS, PAIRS, pair_list, random_made};
-use crate::lists::{first_taxa, random_rows};
+use crate::lists::{first_taxa, random_list, random_rows};
+use crate::newick::line;
 use crate::prng::Prng;
 use crate::records::{Refusal, Row, refuse};
 use crate::rules::{each_tree, is_tree};
@@ -32,6 +34,7 @@ pub fn run(seed: u64, count: u64) -> bool {
     let agreed = [
         ("lists from parts against plain trying", parts_against_trying(seed)),
         ("sets found against the rule of a tree", sets_against_rule(seed)),
+        ("lines with and without unscored records", blanks_left_out(seed)),
         ("counts at the limit", limits_as_said(seed)),
         ("broken tables unfit, edges fit", fitness_as_said(seed)),
         ("sheets against their columns", sheets_as_made(seed)),
@@ -64,8 +67,8 @@ fn variants_show(seed: u64, count: u64) -> bool {
     coverage.print();
     print_variants(&differ);
     println!("{} cases, formulas against trying sets: {formulas_differ} wrong", count * KINDS);
-    let missing = coverage.sheets_missing();
-    println!("shown by no sheet: {}", missing.len());
+    let missing = coverage.missing();
+    println!("shown by no case: {}", missing.len());
     missing.iter().for_each(|says| println!("  {says}"));
     let told = differ.iter().all(|row| row.iter().sum::<u64>() > 0);
     formulas_differ == 0 && missing.is_empty() && told
@@ -173,6 +176,25 @@ fn subsets_missed(rng: &mut Prng) -> usize {
             let found = (0..1u32 << rows.len()).filter(is_one).count();
             wrong += (found as u128 != trees[i].count) as usize;
         }
+    }
+    wrong
+}
+
+/// A list prints what it prints without its unscored records; where none is
+/// scored, 7.
+fn blanks_left_out(seed: u64) -> usize {
+    let rng = &mut Prng::new(seed, 0xC_0000_0000);
+    let mut wrong = 0;
+    for _ in 0..500 {
+        let d = 3 + rng.below(3) as u32;
+        let rows = random_list(rng, d).rows;
+        let scored: Vec<Row> = rows.iter().copied().filter(|r| r.scored).collect();
+        let printed = |rows: &[Row]| {
+            let table = table_of(d, rows, &[], Rules::TRUE, BUDGET).expect("it was tried before");
+            line(d, Ok(&table), Rules::TRUE)
+        };
+        let without = if scored.is_empty() { format!("{d} refused 7\n") } else { printed(&scored) };
+        wrong += (printed(&rows) != without) as usize;
     }
     wrong
 }

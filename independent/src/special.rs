@@ -1,7 +1,7 @@
 //! The cases that every run makes: the bench examples, each refusal and each
 //! pair, record edges, rooms around what is due, tables broken in each
-//! sentence, the most rescorings, and counts at the limit; those of sheets
-//! are in a module of their own. From all sections of docs/RULES.md.
+//! sentence, the most rescorings, and counts at the limit; those of leaf sets
+//! and those of sheets are in modules of their own. From all sections of docs/RULES.md.
 
 use crate::answer::Origin;
 use crate::blocks::{Made, Top};
@@ -14,17 +14,17 @@ use crate::newick::{drawn_tree, text};
 use crate::prng::Prng;
 use crate::records::{Row, list_bytes, raw_bytes};
 use crate::refusals::{BAD_KINDS, bad_record_of, faulty, single_and_pairs};
+use crate::special_leaves::special_leaves;
 use crate::special_sheets::special_sheets;
 use crate::stream::Ask;
 use crate::table::Table;
 use crate::unbuilt::random_fit;
 use crate::variants::Rules;
-use crate::worked_lists::worked_lists;
 
 pub fn specials(rng: &mut Prng) -> Vec<Case> {
     let mut all = Vec::new();
     bench_examples(&mut all, rng);
-    worked_by_hand(&mut all, rng);
+    special_leaves(&mut all, rng);
     list_ends(&mut all, rng);
     refused_lists(&mut all, rng);
     record_edges(&mut all, rng);
@@ -39,16 +39,16 @@ pub fn specials(rng: &mut Prng) -> Vec<Case> {
     all
 }
 
-fn add(all: &mut Vec<Case>, ask: Ask, origin: &Origin, says: &str) {
+pub fn add(all: &mut Vec<Case>, ask: Ask, origin: &Origin, says: &str) {
     all.push(Case { ask, origin: origin.clone(), says: says.into() });
 }
 
-fn made(rows: Vec<Row>, says: &str) -> Made {
+pub fn made(rows: Vec<Row>, says: &str) -> Made {
     Made { rows, joints: Vec::new(), says: says.into() }
 }
 
 /// A list asked about in every way that takes a list or its table.
-fn asked_throughout(all: &mut Vec<Case>, rng: &mut Prng, d: u32, made: &Made) {
+pub fn asked_throughout(all: &mut Vec<Case>, rng: &mut Prng, d: u32, made: &Made) {
     let list = list_bytes(&made.rows);
     let origin = Origin { built: true, joints: made.joints.clone() };
     let says = format!("d = {d}, {}", made.says);
@@ -92,17 +92,6 @@ fn bench_examples(all: &mut Vec<Case>, rng: &mut Prng) {
         }
         let edits = vec![Edit { cluster: 3, weight: 5, state: 1 }];
         rescored_by(all, d, &made(house(), "house list, {0,1} at 5"), edits);
-    }
-}
-
-/// The lists worked out by hand, as they stand after their rescorings, and the
-/// rescorings themselves.
-fn worked_by_hand(all: &mut Vec<Case>, rng: &mut Prng) {
-    for worked in worked_lists() {
-        asked_throughout(all, rng, worked.d, &made(worked.rescored(), &worked.says));
-        if !worked.edits.is_empty() {
-            rescored_by(all, worked.d, &made(worked.rows, &worked.says), worked.edits);
-        }
     }
 }
 
@@ -364,6 +353,12 @@ fn refused_drawings(all: &mut Vec<Case>, rng: &mut Prng) {
     off.bests[5] += 1;
     let mut rowless_off = rowless.clone();
     rowless_off.bests[5] -= 1;
+    let mut blank_behind = house();
+    blank_behind.push(Row::unscored(8));
+    let before_last = built(3, &made(blank_behind, "a blank behind the leaf set")).table;
+    let mut before_last_off = before_last.clone();
+    before_last_off.bests[5] += 1;
+    let none_scored = built(3, &made(vec![Row::unscored(1), Row::unscored(3)], "blanks")).table;
     let unfit = |t: &Table| Table { d: 6, ..t.clone() };
     let tables = [
         (good.clone(), "a good table"),
@@ -371,10 +366,15 @@ fn refused_drawings(all: &mut Vec<Case>, rng: &mut Prng) {
         (barren.clone(), "no tree"),
         (rowless.clone(), "no row"),
         (rowless_off.clone(), "no row and marks off elsewhere"),
+        (before_last.clone(), "a row before the last"),
+        (before_last_off.clone(), "marks off in a row before the last"),
+        (none_scored.clone(), "none scored"),
         (unfit(&good), "unfit"),
         (unfit(&off), "unfit and marks off"),
         (unfit(&barren), "unfit and no tree"),
         (unfit(&rowless), "unfit and no row"),
+        (unfit(&before_last_off), "unfit and marks off in a row before the last"),
+        (unfit(&none_scored), "unfit and none scored"),
     ];
     for (table, says) in tables {
         for size in [0, 4, 5, 10, 11, 40] {
@@ -420,7 +420,7 @@ fn rescored_list(all: &mut Vec<Case>, rng: &mut Prng, d: u32, made: &Made) {
     rescored_by(all, d, made, edits);
 }
 
-fn rescored_by(all: &mut Vec<Case>, d: u32, made: &Made, edits: Vec<Edit>) {
+pub fn rescored_by(all: &mut Vec<Case>, d: u32, made: &Made, edits: Vec<Edit>) {
     let given = built(d, made);
     let says = format!("rescored, {}", given.says);
     let list = list_bytes(&made.rows);
