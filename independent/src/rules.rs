@@ -1,5 +1,5 @@
-//! The leaf set, what a tree is, the tie rule, and the search that tries sets of clusters.
-//! From RULES 3 and 4.
+//! The leaf set, what a tree is, the tie rule, and the search that tries sets
+//! of clusters. From RULES 2 to 4.
 //!
 //! Each many-taxon cluster inside the top is taken or left out, and whatever
 //! can no longer become a tree is dropped. Members are settled one after the

@@ -1,7 +1,8 @@
 //! The cases that every run makes: the bench examples, each refusal and each
 //! pair, record edges, rooms around what is due, tables broken in each
 //! sentence, the most rescorings, and counts at the limit; those of leaf sets
-//! and those of sheets are in modules of their own. From all sections of docs/RULES.md.
+//! and those of sheets are in modules of their own. From all sections of
+//! docs/RULES.md.
 
 use crate::answer::Origin;
 use crate::blocks::{Made, Top};
@@ -413,13 +414,14 @@ fn counts_at_limit(all: &mut Vec<Case>, rng: &mut Prng) {
     }
 }
 
-/// A list put together from parts, rescored, by table and by list.
+/// A list put together from parts, with a few rescorings.
 fn rescored_list(all: &mut Vec<Case>, rng: &mut Prng, d: u32, made: &Made) {
     let given = built(d, made);
     let edits = random_edits(rng, &given.table, 3);
     rescored_by(all, d, made, edits);
 }
 
+/// A list with the rescorings given, by table and by list.
 pub fn rescored_by(all: &mut Vec<Case>, d: u32, made: &Made, edits: Vec<Edit>) {
     let given = built(d, made);
     let says = format!("rescored, {}", given.says);

@@ -24,9 +24,11 @@ pub fn special_leaves(all: &mut Vec<Case>, rng: &mut Prng) {
     }
 }
 
-/// Ways in which the marks of a row are no tree of its best weight; false if
-/// the table has no place for it.
-const OFF: [(&str, fn(&mut Table, usize) -> bool); 4] = [
+/// A change to one row of a table; false if it has no place for it.
+type Off = fn(&mut Table, usize) -> bool;
+
+/// Ways in which the marks of a row are no tree of its best weight.
+const OFF: [(&str, Off); 4] = [
     ("the best one more", |t, top| {
         t.bests[top] += 1;
         true
