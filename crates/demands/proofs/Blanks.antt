@@ -1,4 +1,6 @@
 -- Records without a score, in the order in which it builds up.
+-- what the leaf set's row tells, and results that tell the same
+mod Tells
 -- two lists with the same scored records
 mod Same
 -- the leaf set where none is scored, and after a rescoring

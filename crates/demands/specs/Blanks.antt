@@ -1,6 +1,5 @@
 -- The words on blanks: records without a score (RULES 3 and 12).
 --     tableFor d l           the table that is built of a list
---     leafResult t           the results in the leaf set's row of a table
 --     SameScored l m         two lists have the same scored records, whatever else they name
 --     SameAnswers d l m      they have the same leaf set, trees, count, best weight, tree, text and line
 --     KeepsTaxon t c s x     taxon x is one of a scored cluster of the table t, the cluster c having state s
@@ -15,11 +14,10 @@ use Rattle.laws.specs.Limits.{narrow}
 use Rattle.laws.specs.Row.{Row, isScored}
 use Rattle.laws.specs.State.{scored}
 use Rattle.trees.specs.Heaviest.{weightOf, tieFirst}
-use Rattle.trees.specs.Result.{Result}
 use Rattle.lists.specs.Records.{rowsOf}
 use Rattle.kept.specs.declared.table.Table.{Table}
-use Rattle.kept.specs.View.{rowAt, resultAt}
-use Rattle.members.specs.Draw.{leafRow}
+use Rattle.kept.specs.View.{rowAt}
+use Rattle.members.specs.Draw.{leafResult}
 use Rattle.table.specs.Build.{buildTable}
 use Rattle.drawing.specs.Draw.{drawTree, drawText}
 use Rattle.report.specs.Line.{lineInto}
@@ -27,9 +25,6 @@ use Rattle.demands.specs.Trees.{leafSetOf, treesAt, treesOfList, FirstBy
 
 abbrev pub tableFor : ℕ → List ℕ → Table
 tableFor d l = buildTable narrow l d .given
-
-abbrev pub leafResult : Table → Result
-leafResult t = resultAt t (leafRow t)
 
 -- ---- two lists
 

@@ -15,7 +15,6 @@ use mathlib.Core.Option.{Option, none, some}
 use mathlib.Core.List.{List, [], map, map-id, Memᴰ·map, Memᴰ·of-map}
 use mathlib.Core.List.{List·Memᴰ as Mem}
 use Prim.Native.Nat.{ℕ, _≤_, _<_}
-use native.Mathlib.Nat.{min-eq-left}
 use native.Mathlib.Decide.{decLt}
 use native.Mathlib.Omega.{arith}
 use lib.Dec.{T, ltb, ltb→lt, lt→ltb}
@@ -43,7 +42,7 @@ use Rattle.kept.specs.Rows.{shownRows, leafSet}
 use Rattle.kept.specs.Arrays.{Rising}
 use Rattle.kept.proofs.Laws.Clusters.{clusters-are}
 use Rattle.kept.proofs.Laws.Fit.{isFit→}
-use Rattle.kept.proofs.Laws.Rows.{placeOf-at, hasRow-is}
+use Rattle.kept.proofs.Laws.Rows.{all-shown, placeOf-at, hasRow-is}
 use Rattle.kept.proofs.Laws.View.{entries-table, table-sized}
 use Rattle.table.proofs.Fitting.FitTables.{built-fit}
 use Rattle.table.proofs.Laws.Build.{Buildable}
@@ -67,7 +66,7 @@ module _ (W : Width) (facts : WidthFacts W) (d : ℕ) (rs : List Row) (k : Build
   capped = omega (arith, rows-count, k .bounds .capped, facts .rows)
 
   pub shown-is : shownRows t ≡ t .rows
-  shown-is = min-eq-left capped
+  shown-is = all-shown t capped
 
   clusters-built : clustersIn t ≡ clustersOf rs
   clusters-built = ap (map cl) (entries-table d (builtTable W d rs)) ∙ map-through entry cl (λ (r : Row). r .cluster) (λ r. refl) rs

@@ -40,11 +40,10 @@ use Rattle.kept.specs.Rows.{hasRow}
 use Rattle.table.specs.Build.{buildReasons}
 use Rattle.table.specs.Rescore.{newTable}
 use Rattle.members.specs.Marked.{isSame}
-use Rattle.members.specs.Draw.{hasTree, membersOf, isDrawable}
+use Rattle.members.specs.Draw.{leafResult, hasTree, membersOf, isDrawable}
 use Rattle.drawing.specs.Draw.{leafText}
 use Rattle.examples.specs.Case.{ToldTree, Ending, refused, drawn, Case}
 use Rattle.examples.specs.Cases.{cases}
-use Rattle.examples.specs.Told.{leafResult}
 use Rattle.examples.specs.Right.{listOf}
 use Rattle.examples.proofs.Changed.{isChanged}
 use Rattle.examples.proofs.Quick.{quickRows}

@@ -30,12 +30,12 @@ use Rattle.kept.specs.Rows.{hasRow}
 use Rattle.table.proofs.Fitting.FitTables.{rescored-fit}
 use Rattle.table.proofs.Changing.Rescore.{rescore-done}
 use Rattle.members.specs.Marked.{isSame}
-use Rattle.members.specs.Draw.{hasTree, membersOf, isDrawable, drawReasons}
+use Rattle.members.specs.Draw.{leafResult, hasTree, membersOf, isDrawable, drawReasons}
 use Rattle.members.proofs.Laws.Draw.{nothing-refused, isSame→}
 use Rattle.drawing.specs.Draw.{leafText}
 use Rattle.drawing.proofs.Laws.Draw.{tree-refused, tree-put, text-refused, text-put}
 use Rattle.examples.specs.Case.{ToldTree, Ending, refused, drawn}
-use Rattle.examples.specs.Told.{leafResult, Said, RowTold, Refuses, Draws, Told}
+use Rattle.examples.specs.Told.{Said, RowTold, Refuses, Draws, Told}
 use Rattle.examples.specs.Right.{rescoredBy}
 use Rattle.examples.proofs.Computed.{isNone, isByte, sameNumbers, isSaid, takes, after, hasRowTold, hasOutputTold, isTold}
 

@@ -1,5 +1,4 @@
 -- What it is that a table ends as is told, by the specifications of drawing, in every room.
---     leafResult t     the results in the leaf set's row
 --     Said x n         n is the number that is told, where one is told
 --     RowTold t x      the leaf set's row is as told
 --     refusal n l      what is sent back: the refusal of number n, with the room as it was
@@ -13,16 +12,11 @@ use mathlib.Core.List.{List, []}
 use Prim.Native.Nat.{ℕ}
 use Rattle.laws.specs.Limits.{narrow}
 use Rattle.answers.specs.Outcome.{Outcome, written}
-use Rattle.trees.specs.Result.{Result}
 use Rattle.shapes.specs.Characters.{characters}
 use Rattle.kept.specs.declared.table.Table.{Table}
-use Rattle.kept.specs.View.{resultAt}
-use Rattle.members.specs.Draw.{leafRow}
+use Rattle.members.specs.Draw.{leafResult}
 use Rattle.drawing.specs.Draw.{drawTree, drawText}
 use Rattle.examples.specs.Case.{ToldTree, Ending, refused, drawn}
-
-abbrev pub leafResult : Table → Result
-leafResult t = resultAt t (leafRow t)
 
 abbrev pub Said : Option ℕ → ℕ → Type 0
 Said none n = Unit {0}

@@ -1,5 +1,6 @@
 -- What is drawn of a table: the members of the leaf set's row, or why none are (RULES 8 and 9). Laws: `proofs/Laws/Draw.antt`.
 --     leafRow t            the row of the leaf set: the number of rows where it has none
+--     leafResult t         the results in it: all zero where the table is fit and there is none
 --     hasTree t            the leaf set has a row, and its count isn't zero
 --     leafMarks t, markedRows t     the marks of that row, and the rows marked in it, the last first
 --     membersOf t          their clusters, ascending
@@ -19,6 +20,7 @@ use lib.Dec.{eqb, ltb}
 use lib.ListN.{length}
 use Rattle.laws.specs.Limits.{Width}
 use Rattle.trees.specs.Tree.{isTree}
+use Rattle.trees.specs.Result.{Result}
 use Rattle.answers.specs.declared.refusal.Refusal.the-variants.{NoTree, Unfit}
 use Rattle.answers.specs.Outcome.{Outcome, outcomeOf, ended}
 use Rattle.answers.specs.Reasons.{Reason, when, firstReason}
@@ -32,11 +34,14 @@ use Rattle.members.specs.Marked.{markedTo, membersTo, membersIn, scoredT
 abbrev pub leafRow : Table → ℕ
 leafRow t = placeOf t (leafSet t)
 
+abbrev pub leafResult : Table → Result
+leafResult t = resultAt t (leafRow t)
+
 abbrev pub hasTree : Table → Bool
-hasTree t = ltb (leafRow t) (t .rows) && not (eqb (resultAt t (leafRow t) .count) 0)
+hasTree t = ltb (leafRow t) (t .rows) && not (eqb (leafResult t .count) 0)
 
 abbrev pub leafMarks : Table → ℕ
-leafMarks t = resultAt t (leafRow t) .members
+leafMarks t = leafResult t .members
 
 abbrev pub markedRows : Table → List ℕ
 markedRows t = markedTo (leafMarks t) (shownRows t)
@@ -48,7 +53,7 @@ abbrev pub areScored : Table → Bool
 areScored t = scoredTo (t .states) (leafMarks t) (shownRows t)
 
 abbrev pub weighsBest : Table → Bool
-weighsBest t = isSame (weightTo (t .weights) (leafMarks t) (shownRows t)) (resultAt t (leafRow t) .best)
+weighsBest t = isSame (weightTo (t .weights) (leafMarks t) (shownRows t)) (leafResult t .best)
 
 abbrev pub isDrawable : Width → Table → Bool
 isDrawable W t = areScored t && weighsBest t && isTree (W .taxa) (t .degree) (leafSet t) (membersOf t)

@@ -15,9 +15,8 @@ use Rattle.answers.specs.Refusal.{sentOf}
 use Rattle.answers.specs.Reasons.{firstReason}
 use Rattle.answers.specs.Outcome.{Outcome, written}
 use Rattle.kept.specs.declared.table.Table.{Table}
-use Rattle.kept.specs.View.{resultAt}
 use Rattle.table.specs.Build.{buildReasons, buildTable}
-use Rattle.members.specs.Draw.{leafRow, drawReasons}
+use Rattle.members.specs.Draw.{leafResult, drawReasons}
 use Rattle.drawing.specs.Draw.{leafText}
 use Rattle.report.specs.Words.{refusedLine, treeLine}
 
@@ -31,7 +30,7 @@ lineFor d none line = line
 
 abbrev pub tableLine : ℕ → Table → List ℕ
 tableLine d t =
-    let v = resultAt t (leafRow t) in
+    let v = leafResult t in
     lineFor d (firstReason (drawReasons narrow t)) (treeLine d (v .count) (v .mark) (v .best) (leafText t))
 
 unfoldable pub lineOf : List ℕ → ℕ → List ℕ

@@ -3,6 +3,7 @@
 --     under C e             the entry lies inside C
 --     Local F               the row formula F depends on the entries inside the row's cluster alone
 --     tuples-local, worked-local     the tuples, and the rules' formula, are local
+--     put-own, put-else     a new score in the row of its cluster, and in that of another
 --     put-cluster, put-clusters, put-other         what a new score leaves alone
 --     again-is-table, rescore-is-table     the theorem, for any local formula and for that of the rules
 --     others F c t          the rows of t that don't contain c
@@ -10,18 +11,19 @@
 --     rescore-other     and so does every row without the rescored cluster
 -- Assumes nothing.
 use mathlib.Core.Path.{_≡_, refl, sym, ap, ap₂, _∙_, subst}
-use mathlib.Core.Logic.{_⊎_, inl, inr}
+use mathlib.Core.Logic.{_⊎_, inl, inr, _≢_}
 use mathlib.Core.Bool.{Bool, true, false, not, cond}
 use mathlib.Core.List.{List, [], _∷_, map, Memᴰ·map}
 use Prim.Native.Nat.{ℕ}
-use lib.Dec.{T, eqb, eqb→eq}
+use borrow.Author.Tests.{eq-eqb, ne-eqb}
+use lib.Dec.{T, eqb}
 use lib.IntN.{ℤ}
 use lib.ListN.{length}
 use Rattle.laws.specs.Cluster.{inside, single}
 use Rattle.laws.specs.Limits.{Width}
 use Rattle.laws.specs.Lists.{keepIf, keep}
 use Rattle.laws.specs.Row.{Row, isScored}
-use Rattle.laws.proofs.Tests.{T-dec, T-true, T-false, cond-false}
+use Rattle.laws.proofs.Tests.{T-dec, T-true, T-false}
 use Rattle.laws.proofs.Appended.{map-through}
 use Rattle.laws.proofs.Keep.{keep-swap}
 use Rattle.laws.proofs.Sublists.{sublists-drop}
@@ -70,11 +72,15 @@ module _ (c : ℕ) (z : ℤ) (s : ℕ) where
       go true = refl
       go false = refl
 
+  -- the row of the cluster, and that of another
+  pub put-own : (r : Row) → r .cluster ≡ c → putScore c z s r ≡ record { cluster = r .cluster; weight = z; state = s }
+  put-own r e = ap (λ (b : Bool). cond b (record { cluster = r .cluster; weight = z; state = s }) r) (eq-eqb (r .cluster) c e)
+
+  pub put-else : (r : Row) → r .cluster ≢ c → putScore c z s r ≡ r
+  put-else r n = ap (λ (b : Bool). cond b (record { cluster = r .cluster; weight = z; state = s }) r) (ne-eqb (r .cluster) c n)
+
   pub put-other : (r : Row) → (T (inside c (r .cluster)) → ⊥) → putScore c z s r ≡ r
-  put-other r n = cond-false (eqb (r .cluster) c) (record { cluster = r .cluster; weight = z; state = s }) r other
-    where
-      other : T (eqb (r .cluster) c) → ⊥
-      other t = n (subst (λ (x : ℕ). T (inside c x)) (sym (eqb→eq (r .cluster) c t)) (inside-refl c))
+  put-other r n = put-else r (λ e. n (subst (λ (x : ℕ). T (inside c x)) (sym e) (inside-refl c)))
 
   pub put-clusters : (rs : List Row) → clustersOf (map (putScore c z s) rs) ≡ clustersOf rs
   put-clusters = map-through (putScore c z s) (λ (r : Row). r .cluster) (λ (r : Row). r .cluster) put-cluster

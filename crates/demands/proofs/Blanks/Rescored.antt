@@ -2,38 +2,34 @@
 --     none-scored, no-tree     no taxon and no row, and so no tree
 --     rescored                 which taxa a rescoring leaves
 -- Assumes nothing.
-use mathlib.Core.Path.{_≡_, refl, sym, ap, _∙_, subst}
-use mathlib.Core.Logic.{_⊎_, inl, inr, _≢_, _↔_}
-use mathlib.Core.Bool.{Bool, true, false, cond, not, _&&_}
+use mathlib.Core.Path.{_≡_, refl, sym, _∙_, subst}
+use mathlib.Core.Logic.{inl, inr, _↔_}
 use mathlib.Core.Option.{some}
 use mathlib.Core.List.{List, List·Memᴰ as Mem}
-use Prim.Native.Nat.{ℕ, _^_, _≤_, _<_}
+use Prim.Native.Nat.{ℕ, _^_, _<_}
 use native.Mathlib.Decide.{ℕ-discrete}
-use native.Mathlib.Nat.{min-eq-left}
 use native.Mathlib.Omega.{arith}
-use borrow.Author.Tests.{eq-eqb, ne-eqb}
-use lib.Dec.{T, eqb, ltb, ltb→lt}
+use lib.Dec.{T}
 use lib.IntN.{ℤ}
 use Rattle.laws.specs.Cluster.{inside}
-use Rattle.laws.specs.Limits.{narrow, rowCap}
+use Rattle.laws.specs.Limits.{narrow}
 use Rattle.laws.specs.Orders.{downTo}
 use Rattle.laws.specs.Row.{Row, isScored}
-use Rattle.laws.specs.State.{scored}
 use Rattle.laws.proofs.Down.{mem-down}
-use Rattle.laws.proofs.Tests.{T-true, T-false, T-and}
-use Rattle.laws.proofs.Width.{narrow-facts}
+use Rattle.laws.proofs.Tests.{T-true, T-false}
 use Rattle.answers.specs.declared.refusal.Answer.the-variants.{Refused}
 use Rattle.answers.specs.declared.refusal.Refusal.the-variants.{NoTree}
 use Rattle.answers.specs.Outcome.{outcomeOf}
 use Rattle.answers.specs.Reasons.{firstReason}
 use Rattle.trees.specs.Rescored.{putScore}
 use Rattle.trees.proofs.Formula.Rows.{leaves-none}
+use Rattle.trees.proofs.Rescore.{put-own, put-else}
 use Rattle.kept.specs.declared.table.Table.{Table}
 use Rattle.kept.specs.View.{rowAt}
 use Rattle.kept.specs.Facts.{FitTable}
 use Rattle.kept.specs.Fit.{isFit}
 use Rattle.kept.specs.Rows.{shownRows, leafSet}
-use Rattle.kept.proofs.Laws.Rows.{place-at, place-none, leafSet-iff}
+use Rattle.kept.proofs.Laws.Rows.{all-shown, place-at, place-none, leafSet-iff}
 use Rattle.members.specs.Draw.{leafRow, hasTree, drawReasons}
 use Rattle.members.proofs.Laws.Draw.{hasTree→}
 use Rattle.table.specs.Rescore.{rescoreTable}
@@ -46,8 +42,8 @@ use Rattle.demands.proofs.Demand3.{demand3}
 use Rattle.demands.proofs.Reworks.{reworks}
 
 -- all rows of a fit table are shown
-all-shown : (t : Table) → FitTable narrow t → shownRows t ≡ t .rows
-all-shown t fit = min-eq-left (fit .bounds .capped)
+fit-shown : (t : Table) → FitTable narrow t → shownRows t ≡ t .rows
+fit-shown t fit = all-shown t (fit .bounds .capped)
 
 -- ---- none scored
 
@@ -58,14 +54,14 @@ module _ (t : Table) (fit : FitTable narrow t) (none : (i : ℕ) → i < t .rows
       unscored : (r : Row) → Mem r (downTo (rowAt t) (shownRows t)) → T (isScored r) → ⊥
       unscored r m h =
           let q = mem-down (rowAt t) (shownRows t) r m in
-          none (q .0) (omega (arith, q .1, all-shown t fit)) (subst (λ (x : Row). T (isScored x)) (q .2) h)
+          none (q .0) (omega (arith, q .1, fit-shown t fit)) (subst (λ (x : Row). T (isScored x)) (q .2) h)
 
   no-row : leafRow t ≡ t .rows
-  no-row = place-none t (leafSet t) unlisted ∙ all-shown t fit
+  no-row = place-none t (leafSet t) unlisted ∙ fit-shown t fit
     where
       unlisted : leafRow t < shownRows t → ⊥
       unlisted h =
-          fit .fit (leafRow t) (omega (arith, h, all-shown t fit)) .rules .has-taxon (place-at t (leafSet t) h ∙ no-taxon)
+          fit .fit (leafRow t) (omega (arith, h, fit-shown t fit)) .rules .has-taxon (place-at t (leafSet t) h ∙ no-taxon)
 
   pub none-scored : (leafSet t ≡ 0) × (leafRow t ≡ t .rows)
   none-scored = (no-taxon, no-row)
@@ -89,29 +85,22 @@ module _ (t : Table) (c : ℕ) (z : ℤ) (s : ℕ) (taken : rescoreTable narrow 
   new-row = reworks .new-score t c z s taken
 
   rows-shown : shownRows u ≡ t .rows
-  rows-shown = all-shown u (reworks .fit t c z s taken) ∙ demand3 .rows t c z s
+  rows-shown = fit-shown u (reworks .fit t c z s taken) ∙ demand3 .rows t c z s
 
   named : HasRow t c
   named = demand1 .rescore t c z s .taken .0 taken .1
-
-  -- a row that has the rescored cluster, and one that has another
-  put-same : (r : Row) → r .cluster ≡ c → putScore c z s r ≡ record { cluster = r .cluster; weight = z; state = s }
-  put-same r e = ap (λ (b : Bool). cond b (record { cluster = r .cluster; weight = z; state = s }) r) (eq-eqb (r .cluster) c e)
-
-  put-else : (r : Row) → r .cluster ≢ c → putScore c z s r ≡ r
-  put-else r n = ap (λ (b : Bool). cond b (record { cluster = r .cluster; weight = z; state = s }) r) (ne-eqb (r .cluster) c n)
 
   to-row : (i : ℕ) → i < t .rows → T (isScored (rowAt u i)) → T (inside (2 ^ x) (rowAt u i .cluster)) → KeepsTaxon t c s x
   to-row i h sc within = go (ℕ-discrete (rowAt t i .cluster) c)
     where
       go : Dec (rowAt t i .cluster ≡ c) → KeepsTaxon t c s x
       go (yes e) =
-          let is = new-row i h ∙ put-same (rowAt t i) e in inl (
+          let is = new-row i h ∙ put-own c z s (rowAt t i) e in inl (
             subst (λ (r : Row). T (isScored r)) is sc,
             subst (λ (y : ℕ). T (inside (2 ^ x) y)) e (subst (λ (r : Row). T (inside (2 ^ x) (r .cluster))) is within),
           )
       go (no n) =
-          let is = new-row i h ∙ put-else (rowAt t i) n in inr (
+          let is = new-row i h ∙ put-else c z s (rowAt t i) n in inr (
             i,
             h,
             n,
@@ -134,9 +123,9 @@ module _ (t : Table) (c : ℕ) (z : ℤ) (s : ℕ) (taken : rescoreTable narrow 
   from-row (inl q) =
       let i = named .0 in
       given-by i (named .1) (record { cluster = rowAt t i .cluster; weight = z; state = s })
-      (new-row i (named .1) ∙ put-same (rowAt t i) (named .2)) (q .0) (subst (λ (y : ℕ). T (inside (2 ^ x) y)) (sym (named .2)) (q .1))
+      (new-row i (named .1) ∙ put-own c z s (rowAt t i) (named .2)) (q .0) (subst (λ (y : ℕ). T (inside (2 ^ x) y)) (sym (named .2)) (q .1))
   from-row (inr q) =
-      given-by (q .0) (q .1) (rowAt t (q .0)) (new-row (q .0) (q .1) ∙ put-else (rowAt t (q .0)) (q .2)) (q .3) (q .4)
+      given-by (q .0) (q .1) (rowAt t (q .0)) (new-row (q .0) (q .1) ∙ put-else c z s (rowAt t (q .0)) (q .2)) (q .3) (q .4)
 
   pub rescored : T (inside (2 ^ x) (leafSet (rescoreTable narrow t c z s .given))) ↔ KeepsTaxon t c s x
   rescored = (

@@ -1,6 +1,7 @@
 -- Looking up rows.
 --     isClusterAt          the test of one place
 --     place-at, place-none, place-iff     the row of a cluster, in any table: it has it; or none has, and all that are looked at are told
+--     all-shown            all rows are looked at where there is room for them
 --     placeOf-at           the row of a cluster has it
 --     hasRow-is            a cluster has a row exactly where its place is below the number of rows
 --     leafSet-iff          a taxon of the leaf set is one of a scored row
@@ -55,12 +56,12 @@ module _ (t : Table) (c : ℕ) where
           absurd (subst T (sym (eq-eqb _ _ (q .2)) ∙ none (q .0) (q .1)) tt)
 
 -- ---- in a table with no more rows than there is room for
-module _ (t : Table) (capped : t .rows ≤ rowCap) (c : ℕ) where
-  all-shown : shownRows t ≡ t .rows
-  all-shown = min-eq-left capped
+pub all-shown : (t : Table) → t .rows ≤ rowCap → shownRows t ≡ t .rows
+all-shown t capped = min-eq-left capped
 
+module _ (t : Table) (capped : t .rows ≤ rowCap) (c : ℕ) where
   pub placeOf-at : placeOf t c < t .rows → getD (t .clusters) (placeOf t c) 0 ≡ c
-  placeOf-at h = place-at t c (omega (arith, all-shown, h))
+  placeOf-at h = place-at t c (omega (arith, all-shown t capped, h))
 
   pub hasRow-is : hasRow t c ≡ ltb (placeOf t c) (t .rows)
   hasRow-is =
@@ -74,8 +75,8 @@ module _ (t : Table) (capped : t .rows ≤ rowCap) (c : ℕ) where
       found : T (elem c (clustersDown (t .clusters) (t .rows))) → T (ltb (placeOf t c) (t .rows))
       found h =
           let q = one-of .0 h in
-          let l = place-iff t c .1 (q .0, omega (arith, all-shown, q .1), sym (q .2)) in
-          lt→ltb (placeOf t c) (t .rows) (omega (arith, all-shown, l))
+          let l = place-iff t c .1 (q .0, omega (arith, all-shown t capped, q .1), sym (q .2)) in
+          lt→ltb (placeOf t c) (t .rows) (omega (arith, all-shown t capped, l))
 
 -- ---- the leaf set
 

@@ -52,16 +52,16 @@ module _ (W : Width) (facts : WidthFacts W) (l : List ℕ) (byte : Bytes l) (a :
   pub blanks-rows : (r : Row) → Mem r (rowsOf W (withoutBlanks W l)) ↔ (Mem r (rowsOf W l) × T (isScored r))
   blanks-rows r = (to, from)
     where
+      from : Mem r (rowsOf W l) × T (isScored r) → Mem r (rowsOf W (withoutBlanks W l))
+      from h =
+          let q = records-row-iff W l r .0 (h .0) in
+          left-row-iff r .1 (q .0, mem-keep (hasScore W) (recordsDown W l) (q .1) (subst (λ (x : Row). T (isScored x)) (q .2) (h .1)), q .2)
+
       to : Mem r (rowsOf W (withoutBlanks W l)) → Mem r (rowsOf W l) × T (isScored r)
       to m =
           let q = left-row-iff r .0 m in
           let k = mem-of-keep (hasScore W) (recordsDown W l) (q .1) in
           (records-row-iff W l r .1 (q .0, k .0, q .2), subst (λ (x : Row). T (isScored x)) (sym (q .2)) (k .1))
-
-      from : Mem r (rowsOf W l) × T (isScored r) → Mem r (rowsOf W (withoutBlanks W l))
-      from h =
-          let q = records-row-iff W l r .0 (h .0) in
-          left-row-iff r .1 (q .0, mem-keep (hasScore W) (recordsDown W l) (q .1) (subst (λ (x : Row). T (isScored x)) (q .2) (h .1)), q .2)
 
   -- ---- the list
   left-few : length left * W .recordBytes ≤ W .listBytes
