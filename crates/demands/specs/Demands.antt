@@ -252,7 +252,8 @@ pub record Reworks : Type 0 where
 
 pub record BlankLanes : Type 0 where
   -- a list with its unscored records left out has the scored ones, unchanged and in their order, and is accepted where there is one
-  pub records : (l : List ℕ) → AcceptedBytes narrow l → recordsDown narrow (withoutBlanks narrow l) ≡ keep (hasScore narrow) (recordsDown narrow l)
+  pub records : (l : List ℕ) → AcceptedBytes narrow l
+      → recordsDown narrow (withoutBlanks narrow l) ≡ keep (hasScore narrow) (recordsDown narrow l)
   pub left : (l : List ℕ) → AcceptedBytes narrow l → (r : Row)
       → Mem r (rowsOf narrow (withoutBlanks narrow l)) ↔ (Mem r (rowsOf narrow l) × T (isScored r))
   pub accepted : (l : List ℕ) → AcceptedBytes narrow l → (r : Row) → Mem r (rowsOf narrow l) → T (isScored r)
@@ -261,7 +262,7 @@ pub record BlankLanes : Type 0 where
   pub same : (l : List ℕ) (d : ℕ) → AcceptedBytes narrow l → T (isDegree d) → (r : Row) → Mem r (rowsOf narrow l) → T (isScored r)
       → SameAnswers d l (withoutBlanks narrow l)
   -- so have any two lists with the same scored records
-  pub any-two : (l m : List ℕ) (d : ℕ) → AcceptedBytes narrow l → AcceptedBytes narrow m → T (isDegree d) → SameScored l m
+  pub any-two : (l m : List ℕ) (d : ℕ) → AcceptedBytes narrow l → AcceptedBytes narrow m → T (isDegree d) → SameScored narrow l m
       → SameAnswers d l m
   -- where none is scored there is no taxon and no row, in any fit table, and so no tree
   pub none-scored : (t : Table) → FitTable narrow t → ((i : ℕ) → i < t .rows → T (isScored (rowAt t i)) → ⊥)

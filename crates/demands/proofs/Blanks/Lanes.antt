@@ -19,7 +19,7 @@ use Rattle.demands.proofs.Blanks.Rescored.{none-scored, no-tree, rescor
 
 module _ (l : List ℕ) (a : AcceptedBytes narrow l) where
   -- the scored records of a list are those that are left
-  left-scored : SameScored l (withoutBlanks narrow l)
+  left-scored : SameScored narrow l (withoutBlanks narrow l)
   left-scored r s =
       let q = blanks-rows narrow narrow-facts l (a .byte) (a .accepted) r in (λ m. q .1 (m, s), λ m. q .0 m .0)
 

@@ -1,5 +1,6 @@
 -- Two lists with the same scored records have the same answers, whatever else they name.
---     same-answers      the record of `specs/Blanks.antt`
+--     same-trees        the record of `specs/Blanks.antt`, for any width
+--     same-answers      and with the line
 -- Assumes nothing.
 use mathlib.Core.Path.{_≡_, sym, ap, ap₂, _∙_, subst}
 use mathlib.Core.Logic.{_⊎_, inl, inr, _≢_}
@@ -10,9 +11,10 @@ use lib.Dec.{T}
 use lib.IntN.{ℤ}
 use lib.ListN.{length}
 use Rattle.laws.specs.Cluster.{unionOf}
-use Rattle.laws.specs.Limits.{narrow, isDegree}
+use Rattle.laws.specs.Limits.{Width, narrow, isDegree}
 use Rattle.laws.specs.Lists.{keep}
 use Rattle.laws.specs.Row.{Row, isScored}
+use Rattle.laws.specs.Widths.{WidthFacts}
 use Rattle.laws.proofs.Falling.{falling-once}
 use Rattle.laws.proofs.Keep.{mem-keep, mem-of-keep, empty-or}
 use Rattle.laws.proofs.Width.{narrow-facts}
@@ -39,26 +41,27 @@ use Rattle.drawing.proofs.DrawnTables.{drawTree-none, drawText-none}
 use Rattle.report.specs.Words.{signed}
 use Rattle.report.specs.Line.{lineInto}
 use Rattle.demands.specs.Trees.{leafSetOf, treesAt, treesOfList, FirstBy, TellsTrees, printedCount}
-use Rattle.demands.specs.Blanks.{tableFor, SameScored, SameAnswers}
+use Rattle.demands.specs.Blanks.{tableFor, SameScored, SameTrees, SameAnswers}
+use Rattle.demands.specs.Demands.{DrawsTrees}
 use Rattle.demands.proofs.Drawn.First.{first-there}
 use Rattle.demands.proofs.Drawn.Told.{rows-tell}
 use Rattle.demands.proofs.Drawn.Draws.{draws}
 use Rattle.demands.proofs.Drawn.Lines.{prints}
 use Rattle.demands.proofs.Blanks.Tells.{first-by, same-count, same-best, leaf-tells}
 
-module _ (d : ℕ) (l m : List ℕ) (a : AcceptedBytes narrow l) (b : AcceptedBytes narrow m) (degree : T (isDegree d))
-    (same : SameScored l m) where
+module _ (W : Width) (facts : WidthFacts W) (d : ℕ) (l m : List ℕ) (a : AcceptedBytes W l) (b : AcceptedBytes W m) (degree : T (isDegree d))
+    (same : SameScored W l m) where
   abbrev rs : List Row
-  rs = rowsOf narrow l
+  rs = rowsOf W l
 
   abbrev qs : List Row
-  qs = rowsOf narrow m
+  qs = rowsOf W m
 
-  k : Buildable narrow d (rowsOf narrow l)
-  k = buildable narrow-facts degree (a .byte) (a .accepted)
+  k : Buildable W d (rowsOf W l)
+  k = buildable facts degree (a .byte) (a .accepted)
 
-  j : Buildable narrow d (rowsOf narrow m)
-  j = buildable narrow-facts degree (b .byte) (b .accepted)
+  j : Buildable W d (rowsOf W m)
+  j = buildable facts degree (b .byte) (b .accepted)
 
   -- ---- the scored rows, and so the trees and what they weigh
 
@@ -76,23 +79,23 @@ module _ (d : ℕ) (l m : List ℕ) (a : AcceptedBytes narrow l) (b : AcceptedBy
   clusters-same : scoredIn rs ≡ scoredIn qs
   clusters-same = ap clustersOf scored-same
 
-  leaves-same : leafSetOf narrow l ≡ leafSetOf narrow m
+  leaves-same : leafSetOf W l ≡ leafSetOf W m
   leaves-same = ap unionOf clusters-same
 
-  at-same : (C : ℕ) → treesAt narrow d l C ≡ treesAt narrow d m C
-  at-same C = ap (λ (cs : List ℕ). treesOn (narrow .taxa) d cs C) clusters-same
+  at-same : (C : ℕ) → treesAt W d l C ≡ treesAt W d m C
+  at-same C = ap (λ (cs : List ℕ). treesOn (W .taxa) d cs C) clusters-same
 
-  trees-same : treesOfList narrow d l ≡ treesOfList narrow d m
-  trees-same = ap₂ (treesOn (narrow .taxa) d) clusters-same leaves-same
+  trees-same : treesOfList W d l ≡ treesOfList W d m
+  trees-same = ap₂ (treesOn (W .taxa) d) clusters-same leaves-same
 
   -- of a tree, the scored rows alone are weighed
-  weighs : (n : List ℕ) → Buildable narrow d (rowsOf narrow n) → (ys : List ℕ) → Mem ys (treesOfList narrow d n)
-      → weightOf (keep isScored (rowsOf narrow n)) ys ≡ weightOf (rowsOf narrow n) ys
+  weighs : (n : List ℕ) → Buildable W d (rowsOf W n) → (ys : List ℕ) → Mem ys (treesOfList W d n)
+      → weightOf (keep isScored (rowsOf W n)) ys ≡ weightOf (rowsOf W n) ys
   weighs n i ys h =
-      weight-scored (rowsOf narrow n) (falling-once (clustersOf (rowsOf narrow n)) (i .facts .falls)) ys
-      (rows-tell narrow narrow-facts d n i .all-trees (leafSetOf narrow n) .listed ys h)
+      weight-scored (rowsOf W n) (falling-once (clustersOf (rowsOf W n)) (i .facts .falls)) ys
+      (rows-tell W facts d n i .all-trees (leafSetOf W n) .listed ys h)
 
-  weights-same : (ys : List ℕ) → Mem ys (treesOfList narrow d l) → weightOf rs ys ≡ weightOf qs ys
+  weights-same : (ys : List ℕ) → Mem ys (treesOfList W d l) → weightOf rs ys ≡ weightOf qs ys
   weights-same ys h =
       sym (weighs l k ys h)
       ∙ ap (λ (rows : List Row). weightOf rows ys) scored-same
@@ -101,17 +104,17 @@ module _ (d : ℕ) (l m : List ℕ) (a : AcceptedBytes narrow l) (b : AcceptedBy
   -- ---- the first heaviest tree
 
   abbrev trees : List (List ℕ)
-  trees = treesOfList narrow d l
+  trees = treesOfList W d l
 
   abbrev First : List ℕ → List (List ℕ) → List ℕ → Type 0
-  First n ts ys = FirstBy tieFirst (rowsOf narrow n) ts ys
+  First n ts ys = FirstBy tieFirst (rowsOf W n) ts ys
 
-  first-to : (ys : List ℕ) → First l trees ys → First m (treesOfList narrow d m) ys
-  first-to ys f = subst (λ (ts : List (List ℕ)). First m ts ys) trees-same (first-by rs qs trees weights-same ys f)
+  first-to : (ys : List ℕ) → First l trees ys → First m (treesOfList W d m) ys
+  first-to ys f = subst (λ (ts : List (List ℕ)). First m ts ys) trees-same (first-by W rs qs trees weights-same ys f)
 
-  first-from : (ys : List ℕ) → First m (treesOfList narrow d m) ys → First l trees ys
+  first-from : (ys : List ℕ) → First m (treesOfList W d m) ys → First l trees ys
   first-from ys f =
-      first-by qs rs trees (λ zs h. sym (weights-same zs h)) ys
+      first-by W qs rs trees (λ zs h. sym (weights-same zs h)) ys
       (subst (λ (ts : List (List ℕ)). First m ts ys) (sym trees-same) f)
 
   -- what is so where there is no tree, and where one is the first heaviest
@@ -121,78 +124,62 @@ module _ (d : ℕ) (l m : List ℕ) (a : AcceptedBytes narrow l) (b : AcceptedBy
       go : (trees ≡ []) ⊎ (trees ≢ []) → A
       go (inl e) = f e
       go (inr n) =
-          let q = first-there (narrow .taxa) d rs (k .facts) (leafSetOf narrow l) n in g (q .0) (q .1)
+          let q = first-there (W .taxa) d rs (k .facts) (leafSetOf W l) n in g (q .0) (q .1)
 
-  none-too : trees ≡ [] → treesOfList narrow d m ≡ []
+  none-too : trees ≡ [] → treesOfList W d m ≡ []
   none-too e = sym trees-same ∙ e
 
   -- ---- what the tables tell and what is drawn of them
 
-  tells-same : TellsTrees narrow qs trees (leafResult (builtFrom narrow d qs))
-  tells-same = subst (λ (ts : List (List ℕ)). TellsTrees narrow qs ts (leafResult (builtFrom narrow d qs))) (sym trees-same) (leaf-tells d m j)
+  tells-same : TellsTrees W qs trees (leafResult (builtFrom W d qs))
+  tells-same = subst (λ (ts : List (List ℕ)). TellsTrees W qs ts (leafResult (builtFrom W d qs))) (sym trees-same) (leaf-tells W facts d m j)
 
   abbrev v : Result
-  v = leafResult (builtFrom narrow d rs)
+  v = leafResult (builtFrom W d rs)
 
   abbrev u : Result
-  u = leafResult (builtFrom narrow d qs)
+  u = leafResult (builtFrom W d qs)
 
   counts-same : (v .count ≡ u .count) × (v .mark ≡ u .mark)
-  counts-same = same-count rs qs trees weights-same v u (leaf-tells d l k) tells-same
+  counts-same = same-count W rs qs trees weights-same v u (leaf-tells W facts d l k) tells-same
 
   bests-same : v .best ≡ u .best
-  bests-same = same-best rs qs trees weights-same v u (leaf-tells d l k) tells-same
+  bests-same = same-best W rs qs trees weights-same v u (leaf-tells W facts d l k) tells-same
 
   module _ (room : List ℕ) where
-    tree-same : drawTree narrow (builtFrom narrow d rs) room ≡ drawTree narrow (builtFrom narrow d qs) room
+    tree-same : drawTree W (builtFrom W d rs) room ≡ drawTree W (builtFrom W d qs) room
     tree-same =
         by-trees
         (λ e.
-        drawTree-none narrow narrow-facts d rs k e room
-        ∙ sym (drawTree-none narrow narrow-facts d qs j (none-too e) room))
+        drawTree-none W facts d rs k e room
+        ∙ sym (drawTree-none W facts d qs j (none-too e) room))
         (λ ys f.
-        draws narrow narrow-facts d l k .tree ys f room
-        ∙ sym (draws narrow narrow-facts d m j .tree ys (first-to ys f) room))
+        draws W facts d l k .tree ys f room
+        ∙ sym (draws W facts d m j .tree ys (first-to ys f) room))
 
-    text-same : drawText narrow (builtFrom narrow d rs) room ≡ drawText narrow (builtFrom narrow d qs) room
+    text-same : drawText W (builtFrom W d rs) room ≡ drawText W (builtFrom W d qs) room
     text-same =
         by-trees
         (λ e.
-        drawText-none narrow narrow-facts d rs k e room
-        ∙ sym (drawText-none narrow narrow-facts d qs j (none-too e) room))
+        drawText-none W facts d rs k e room
+        ∙ sym (drawText-none W facts d qs j (none-too e) room))
         (λ ys f.
-        let s = draws narrow narrow-facts d l k .shape ys f in
-        draws narrow narrow-facts d l k .text ys f (s .0) (s .1) room
-        ∙ sym (draws narrow narrow-facts d m j .text ys (first-to ys f) (s .0) (s .1) room))
-
-    -- the line of a tree that is drawn as so many bytes
-    abbrev told : ℕ → ℤ → List ℕ → Outcome (List ℕ)
-    told n z text =
-        written [] (decimal d ++ characters " " ++ printedCount narrow n ++ characters " " ++ signed z ++ characters " " ++ text
-        ++ characters "\n") room
-
-    line-same : lineInto l d room ≡ lineInto m d room
-    line-same =
-        by-trees
-        (λ e. prints l d degree a .no-tree e room ∙ sym (prints m d degree b .no-tree (none-too e) room))
-        (λ ys f.
-        let s = draws narrow narrow-facts d l k .shape ys f in
-        prints l d degree a .line ys f (s .0) (s .1) room
-        ∙ ap₂ (λ (n : ℕ) (z : ℤ). told n z (textBytes (s .0))) (ap length trees-same) (weights-same ys (f .tree))
-        ∙ sym (prints m d degree b .line ys (first-to ys f) (s .0) (s .1) room))
+        let s = draws W facts d l k .shape ys f in
+        draws W facts d l k .text ys f (s .0) (s .1) room
+        ∙ sym (draws W facts d m j .text ys (first-to ys f) (s .0) (s .1) room))
 
   -- ---- all of it, of the tables that are built
 
-  table-is : (n : List ℕ) → AcceptedBytes narrow n → tableFor d n ≡ builtFrom narrow d (rowsOf narrow n)
-  table-is n c = built-table narrow n d degree (c .accepted)
+  table-is : (n : List ℕ) → AcceptedBytes W n → tableFor W d n ≡ builtFrom W d (rowsOf W n)
+  table-is n c = built-table W n d degree (c .accepted)
 
   -- what is the same of the tables of both rows
-  by-tables : {A : Type 0} (f : Table → A) → f (builtFrom narrow d rs) ≡ f (builtFrom narrow d qs)
-      → f (tableFor d l) ≡ f (tableFor d m)
+  by-tables : {A : Type 0} (f : Table → A) → f (builtFrom W d rs) ≡ f (builtFrom W d qs)
+      → f (tableFor W d l) ≡ f (tableFor W d m)
   by-tables f e = ap f (table-is l a) ∙ e ∙ sym (ap f (table-is m b))
 
-  pub same-answers : SameAnswers d l m
-  same-answers = record {
+  pub same-trees : SameTrees W d l m
+  same-trees = record {
     leaf-set = leaves-same;
     trees-at = at-same;
     trees = trees-same;
@@ -201,7 +188,38 @@ module _ (d : ℕ) (l m : List ℕ) (a : AcceptedBytes narrow l) (b : AcceptedBy
     count = by-tables (λ (t : Table). leafResult t .count) (counts-same .0);
     mark = by-tables (λ (t : Table). leafResult t .mark) (counts-same .1);
     best = by-tables (λ (t : Table). leafResult t .best) bests-same;
-    tree = λ room. by-tables (λ (t : Table). drawTree narrow t room) (tree-same room);
-    text = λ room. by-tables (λ (t : Table). drawText narrow t room) (text-same room);
-    line = line-same;
+    tree = λ room. by-tables (λ (t : Table). drawTree W t room) (tree-same room);
+    text = λ room. by-tables (λ (t : Table). drawText W t room) (text-same room);
   }
+
+-- ---- the line of both
+
+module _ (d : ℕ) (l m : List ℕ) (a : AcceptedBytes narrow l) (b : AcceptedBytes narrow m) (degree : T (isDegree d))
+    (same : SameScored narrow l m) where
+  both : SameTrees narrow d l m
+  both = same-trees narrow narrow-facts d l m a b degree same
+
+  shown : DrawsTrees narrow d l (builtFrom narrow d (rowsOf narrow l))
+  shown = draws narrow narrow-facts d l (buildable narrow-facts degree (a .byte) (a .accepted))
+
+  -- the line of a tree with this weight and text, of so many
+  abbrev told : List ℕ → ℕ → ℤ → List ℕ → Outcome (List ℕ)
+  told room n z text =
+      written [] (decimal d ++ characters " " ++ printedCount narrow n ++ characters " " ++ signed z ++ characters " " ++ text
+      ++ characters "\n") room
+
+  line-same : (room : List ℕ) → lineInto l d room ≡ lineInto m d room
+  line-same room = go (empty-or (treesOfList narrow d l))
+    where
+      go : (treesOfList narrow d l ≡ []) ⊎ (treesOfList narrow d l ≢ []) → lineInto l d room ≡ lineInto m d room
+      go (inl e) = prints l d degree a .no-tree e room ∙ sym (prints m d degree b .no-tree (sym (both .trees) ∙ e) room)
+      go (inr n) =
+          let q = shown .first n in
+          let ys = q .0 in
+          let s = shown .shape ys (q .1) in
+          prints l d degree a .line ys (q .1) (s .0) (s .1) room
+          ∙ ap₂ (λ (n : ℕ) (z : ℤ). told room n z (textBytes (s .0))) (ap length (both .trees)) (both .weights ys (q .1 .tree))
+          ∙ sym (prints m d degree b .line ys (both .first ys .0 (q .1)) (s .0) (s .1) room)
+
+  pub same-answers : SameAnswers d l m
+  same-answers = record { trees = both; line = line-same }

@@ -14,14 +14,14 @@ use lib.Dec.{T}
 use lib.IntN.{ℤ}
 use lib.ListN.{length}
 use lib.Signed.{ltZ}
-use Rattle.laws.specs.Limits.{narrow, wordValues}
+use Rattle.laws.specs.Limits.{Width, wordValues}
 use Rattle.laws.specs.Row.{Row}
+use Rattle.laws.specs.Widths.{WidthFacts}
 use Rattle.laws.proofs.Keep.{empty-or}
-use Rattle.laws.proofs.Width.{narrow-facts}
 use Rattle.trees.specs.Heaviest.{weightOf, tieFirst}
 use Rattle.trees.specs.Result.{Result}
 use Rattle.trees.specs.Built.{treeResult, builtTable}
-use Rattle.trees.proofs.Counting.Capped.{past}
+use Rattle.trees.proofs.Counting.Capped.{past, count-small}
 use Rattle.lists.specs.Records.{rowsOf}
 use Rattle.kept.specs.declared.table.Table.{Table}
 use Rattle.kept.proofs.Laws.View.{table-past}
@@ -34,7 +34,7 @@ use Rattle.demands.proofs.Drawn.Told.{rows-tell}
 
 -- ---- sets that weigh the same by two lists of rows
 
-module _ (rs qs : List Row) (ts : List (List ℕ)) (weigh : (ys : List ℕ) → Mem ys ts → weightOf rs ys ≡ weightOf qs ys) where
+module _ (W : Width) (rs qs : List Row) (ts : List (List ℕ)) (weigh : (ys : List ℕ) → Mem ys ts → weightOf rs ys ≡ weightOf qs ys) where
   pub first-by : (ys : List ℕ) → FirstBy tieFirst rs ts ys → FirstBy tieFirst qs ts ys
   first-by ys f = record {
     tree = f .tree;
@@ -44,11 +44,11 @@ module _ (rs qs : List Row) (ts : List (List ℕ)) (weigh : (ys : List ℕ) → 
     first = λ zs m e. f .first zs m (weigh zs m ∙ e ∙ sym (weigh ys (f .tree)));
   }
 
-  module _ (v u : Result) (v-tells : TellsTrees narrow rs ts v) (u-tells : TellsTrees narrow qs ts u) where
+  module _ (v u : Result) (v-tells : TellsTrees W rs ts v) (u-tells : TellsTrees W qs ts u) where
     pub same-count : (v .count ≡ u .count) × (v .mark ≡ u .mark)
-    same-count = go (past (narrow .countMax) (length ts))
+    same-count = go (past (W .countMax) (length ts))
       where
-        go : (length ts ≤ narrow .countMax) ⊎ (narrow .countMax < length ts) → (v .count ≡ u .count) × (v .mark ≡ u .mark)
+        go : (length ts ≤ W .countMax) ⊎ (W .countMax < length ts) → (v .count ≡ u .count) × (v .mark ≡ u .mark)
         go (inl h) = (v-tells .count h ∙ sym (u-tells .count h), v-tells .exact .1 h ∙ sym (u-tells .exact .1 h))
         go (inr h) = (v-tells .limit h ∙ sym (u-tells .limit h), v-tells .many .1 h ∙ sym (u-tells .many .1 h))
 
@@ -63,28 +63,29 @@ module _ (rs qs : List Row) (ts : List (List ℕ)) (weigh : (ys : List ℕ) → 
 
 -- ---- one list: the leaf set's row tells its trees, or is none and tells that there are none
 
-module _ (d : ℕ) (l : List ℕ) (k : Buildable narrow d (rowsOf narrow l)) where
+module _ (W : Width) (facts : WidthFacts W) (d : ℕ) (l : List ℕ) (k : Buildable W d (rowsOf W l)) where
   abbrev rs : List Row
-  rs = rowsOf narrow l
+  rs = rowsOf W l
 
   abbrev t : Table
-  t = builtFrom narrow d rs
+  t = builtFrom W d rs
 
-  pub leaf-tells : TellsTrees narrow (rowsOf narrow l) (treesOfList narrow d l) (leafResult (builtFrom narrow d (rowsOf narrow l)))
+  pub leaf-tells : TellsTrees W (rowsOf W l) (treesOfList W d l) (leafResult (builtFrom W d (rowsOf W l)))
   leaf-tells = go (decLt (leafRow t) (t .rows))
     where
-      go : Dec (leafRow t < t .rows) → TellsTrees narrow rs (treesOfList narrow d l) (leafResult t)
-      go (yes h) = rows-tell narrow narrow-facts d l k .leaf h
+      go : Dec (leafRow t < t .rows) → TellsTrees W rs (treesOfList W d l) (leafResult t)
+      go (yes h) = rows-tell W facts d l k .leaf h
       go (no n) =
-          let b = table-past d (builtTable narrow d rs) (leafRow t) (omega (arith, n)) in
-          let blank : leafResult t ≡ treeResult narrow rs 0 [] = λ i. record {
+          let b = table-past d (builtTable W d rs) (leafRow t) (omega (arith, n)) in
+          let none-fields = count-small (W .countMax) 0 (omega arith) in
+          let blank : leafResult t ≡ treeResult W rs 0 [] = λ i. record {
             length = b .length i;
-            count = b .count i;
-            mark = b .mark i;
+            count = (b .count ∙ sym (none-fields .0)) i;
+            mark = (b .mark ∙ sym (none-fields .1)) i;
             best = b .best i;
             members = b .low i + wordValues * b .high i;
           } in
-          let none-there = rows-tell narrow narrow-facts d l k .no-leaf n in
-          subst (TellsTrees narrow rs (treesOfList narrow d l)) (sym (blank ∙ ap (treeResult narrow rs 0) (sym none-there)))
-          (tells narrow rs 0 (treesOfList narrow d l) (→found (narrow .taxa) d rs (k .facts) (leafSetOf narrow l))
-          (first-there (narrow .taxa) d rs (k .facts) (leafSetOf narrow l)))
+          let none-there = rows-tell W facts d l k .no-leaf n in
+          subst (TellsTrees W rs (treesOfList W d l)) (sym (blank ∙ ap (treeResult W rs 0) (sym none-there)))
+          (tells W rs 0 (treesOfList W d l) (→found (W .taxa) d rs (k .facts) (leafSetOf W l))
+          (first-there (W .taxa) d rs (k .facts) (leafSetOf W l)))
