@@ -7,6 +7,7 @@ use native.Mathlib.Nat.{min-le-right}
 use native.Mathlib.Numerals.{add-one}
 use native.Mathlib.Omega.{arith}
 use borrow.Author.Needs.{needs}
+use lib.Bits.{bitOr}
 use Rattle.laws.specs.Limits.{rowCap}
 use Rattle.laws.specs.Orders.{downTo}
 use Rattle.trees.specs.Rows.{leaves}
@@ -39,8 +40,8 @@ loop-again c =
     let step : c .if1 .all ≡ leavesTo t (i + 1) =
     rw (add-one i)
     (⊎-elim
-    (λ w. rw (w .2, so-far) (leaves-scored (rowAt t i) (downTo (rowAt t) i) (is ∙ w .0 .taken)))
-    (λ w. rw (w .1, so-far) (leaves-unscored (rowAt t i) (downTo (rowAt t) i) (is ∙ w .0 .left)))
+    (λ w. w .2 ∙ ap (λ (x : ℕ). bitOr x (rowAt t i .cluster)) so-far ∙ leaves-scored (rowAt t i) (downTo (rowAt t) i) (is ∙ w .0 .taken))
+    (λ w. w .1 ∙ so-far ∙ leaves-unscored (rowAt t i) (downTo (rowAt t) i) (is ∙ w .0 .left))
     (c .if1 .came))
     in
     (omega arith, at-loop .loop .inv .1, step)
