@@ -1,7 +1,7 @@
 -- The words on blanks: records without a score (RULES 3 and 12).
 --     tableFor W d l         the table that is built of a list
 --     SameScored W l m       two lists have the same scored records, whatever else they name
---     SameTrees W d l m      they have the same leaf set, trees, count, best weight, tree and text
+--     SameTrees W d l m      they have the same leaf set, trees, row lengths, count, best weight, tree and text
 --     SameAnswers d l m      and the same line
 --     KeepsTaxon t c s x     taxon x is one of a scored cluster of the table t, the cluster c having state s
 -- Assumes nothing.
@@ -15,6 +15,7 @@ use Rattle.laws.specs.Limits.{Width, narrow}
 use Rattle.laws.specs.Row.{Row, isScored}
 use Rattle.laws.specs.State.{scored}
 use Rattle.trees.specs.Heaviest.{weightOf, tieFirst}
+use Rattle.trees.specs.Built.{rowLength}
 use Rattle.lists.specs.Records.{rowsOf}
 use Rattle.kept.specs.declared.table.Table.{Table}
 use Rattle.kept.specs.View.{rowAt}
@@ -34,10 +35,11 @@ module _ (W : Width) where
   SameScored l m = (r : Row) → T (isScored r) → Mem r (rowsOf W l) ↔ Mem r (rowsOf W m)
 
   pub record SameTrees (d : ℕ) (l m : List ℕ) : Type 0 where
-    -- the trees: on every cluster, and those of the list; their weights, and the one that is drawn
+    -- the trees: on every cluster, and those of the list; how many tuples a row has; what trees weigh, and the one that is drawn
     pub leaf-set : leafSetOf W l ≡ leafSetOf W m
     pub trees-at : (C : ℕ) → treesAt W d l C ≡ treesAt W d m C
     pub trees : treesOfList W d l ≡ treesOfList W d m
+    pub lengths : (r : Row) → rowLength d (rowsOf W l) r ≡ rowLength d (rowsOf W m) r
     pub weights : (ys : List ℕ) → Mem ys (treesOfList W d l) → weightOf (rowsOf W l) ys ≡ weightOf (rowsOf W m) ys
     pub first : (ys : List ℕ) → FirstBy tieFirst (rowsOf W l) (treesOfList W d l) ys
         ↔ FirstBy tieFirst (rowsOf W m) (treesOfList W d m) ys

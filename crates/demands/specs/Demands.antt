@@ -35,8 +35,7 @@ use Rattle.shapes.specs.Decimal.{decimal}
 use Rattle.shapes.specs.Shape.{Shape}
 use Rattle.shapes.specs.Text.{textBytes}
 use Rattle.shapes.specs.Drawn.{ascending}
-use Rattle.answers.specs.declared.refusal.Answer.the-variants.{Done, Refused}
-use Rattle.answers.specs.declared.refusal.Refusal.the-variants.{NoTree}
+use Rattle.answers.specs.declared.refusal.Answer.the-variants.{Done}
 use Rattle.answers.specs.Outcome.{outcomeOf, putInto, written}
 use Rattle.cluster.specs.declared.record.Record.{Record}
 use Rattle.cluster.specs.Record.{recordBytes, rowIn, recordOf, bytesOf}
@@ -251,6 +250,9 @@ pub record Reworks : Type 0 where
 -- ---- blanks: records without a score
 
 pub record BlankLanes : Type 0 where
+  -- the taxa of a list's leaf set are those of scored records
+  pub leaf-set : (l : List ℕ) (x : ℕ) → T (inside (2 ^ x) (leafSetOf narrow l))
+      ↔ ((r : Row) × Mem r (rowsOf narrow l) × T (isScored r) × T (inside (2 ^ x) (r .cluster)))
   -- a list with its unscored records left out has the scored ones, unchanged and in their order, and is accepted where there is one
   pub records : (l : List ℕ) → AcceptedBytes narrow l
       → recordsDown narrow (withoutBlanks narrow l) ≡ keep (hasScore narrow) (recordsDown narrow l)
@@ -268,7 +270,7 @@ pub record BlankLanes : Type 0 where
   pub none-scored : (t : Table) → FitTable narrow t → ((i : ℕ) → i < t .rows → T (isScored (rowAt t i)) → ⊥)
       → (leafSet t ≡ 0) × (leafRow t ≡ t .rows)
   pub no-tree : (t : Table) → FitTable narrow t → ((i : ℕ) → i < t .rows → T (isScored (rowAt t i)) → ⊥) → (room : List ℕ)
-      → (drawTree narrow t room ≡ outcomeOf (Refused NoTree) room) × (drawText narrow t room ≡ outcomeOf (Refused NoTree) room)
+      → (drawTree narrow t room .sent ≡ sentBack 7 0) × (drawText narrow t room .sent ≡ sentBack 7 0)
   -- an accepted rescoring can take taxa away, or bring them; after any of them the leaf set is that of the changed list
   pub rescored : (t : Table) (c : ℕ) (z : ℤ) (s : ℕ) → rescoreTable narrow t c z s .sent .number ≡ 0 → (x : ℕ)
       → T (inside (2 ^ x) (leafSet (rescoreTable narrow t c z s .given))) ↔ KeepsTaxon t c s x

@@ -7,6 +7,7 @@ use Prim.Native.Nat.{ℕ}
 use Rattle.laws.specs.Limits.{narrow, isDegree}
 use Rattle.laws.specs.Row.{Row, isScored}
 use Rattle.laws.proofs.Width.{narrow-facts}
+use Rattle.trees.proofs.Formula.Rows.{leaves-iff}
 use Rattle.lists.specs.Records.{rowsOf}
 use Rattle.lists.specs.Joined.{withoutBlanks}
 use Rattle.lists.proofs.Laws.Blanks.{blanks-bytes, blanks-records, blanks-accepted, blanks-rows}
@@ -34,6 +35,7 @@ module _ (l : List ℕ) (a : AcceptedBytes narrow l) where
 
 pub blank-lanes : BlankLanes
 blank-lanes = record {
+  leaf-set = λ l. leaves-iff (rowsOf narrow l);
   records = λ l a. blanks-records narrow narrow-facts l (a .byte) (a .accepted);
   left = λ l a r. blanks-rows narrow narrow-facts l (a .byte) (a .accepted) r;
   accepted = left-accepted;

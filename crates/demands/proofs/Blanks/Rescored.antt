@@ -2,7 +2,7 @@
 --     none-scored, no-tree     no taxon and no row, and so no tree
 --     rescored                 which taxa a rescoring leaves
 -- Assumes nothing.
-use mathlib.Core.Path.{_≡_, refl, sym, _∙_, subst}
+use mathlib.Core.Path.{_≡_, refl, sym, ap, _∙_, subst}
 use mathlib.Core.Logic.{inl, inr, _↔_}
 use mathlib.Core.Option.{some}
 use mathlib.Core.List.{List, List·Memᴰ as Mem}
@@ -17,9 +17,8 @@ use Rattle.laws.specs.Orders.{downTo}
 use Rattle.laws.specs.Row.{Row, isScored}
 use Rattle.laws.proofs.Down.{mem-down}
 use Rattle.laws.proofs.Tests.{T-true, T-false}
-use Rattle.answers.specs.declared.refusal.Answer.the-variants.{Refused}
 use Rattle.answers.specs.declared.refusal.Refusal.the-variants.{NoTree}
-use Rattle.answers.specs.Outcome.{outcomeOf}
+use Rattle.answers.specs.Outcome.{Outcome}
 use Rattle.answers.specs.Reasons.{firstReason}
 use Rattle.trees.specs.Rescored.{putScore}
 use Rattle.trees.proofs.Formula.Rows.{leaves-none}
@@ -35,6 +34,7 @@ use Rattle.members.proofs.Laws.Draw.{hasTree→}
 use Rattle.table.specs.Rescore.{rescoreTable}
 use Rattle.drawing.specs.Draw.{drawTree, drawText}
 use Rattle.drawing.proofs.Laws.Draw.{tree-refused, text-refused}
+use Rattle.demands.specs.Sending.{sentBack}
 use Rattle.demands.specs.Refusals.{HasRow}
 use Rattle.demands.specs.Blanks.{KeepsTaxon}
 use Rattle.demands.proofs.Demand1.{demand1}
@@ -71,9 +71,11 @@ module _ (t : Table) (fit : FitTable narrow t) (none : (i : ℕ) → i < t .rows
       let is-fit = T-true (isFit narrow t) (demand1 .is-fit t .1 fit) in
       rw (is-fit, T-false (hasTree t) (λ h. omega (arith, hasTree→ t h .0, no-row))) refl
 
-  pub no-tree : (room : List ℕ)
-      → (drawTree narrow t room ≡ outcomeOf (Refused NoTree) room) × (drawText narrow t room ≡ outcomeOf (Refused NoTree) room)
-  no-tree room = (sym (tree-refused narrow t room why), sym (text-refused narrow t room why))
+  pub no-tree : (room : List ℕ) → (drawTree narrow t room .sent ≡ sentBack 7 0) × (drawText narrow t room .sent ≡ sentBack 7 0)
+  no-tree room = (
+    ap (λ (o : Outcome (List ℕ)). o .sent) (sym (tree-refused narrow t room why)),
+    ap (λ (o : Outcome (List ℕ)). o .sent) (sym (text-refused narrow t room why)),
+  )
 
 -- ---- after a rescoring
 

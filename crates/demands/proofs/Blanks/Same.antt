@@ -4,15 +4,16 @@
 -- Assumes nothing.
 use mathlib.Core.Path.{_≡_, sym, ap, ap₂, _∙_, subst}
 use mathlib.Core.Logic.{_⊎_, inl, inr, _≢_}
+use mathlib.Core.Bool.{not, cond, _&&_}
 use mathlib.Core.List.{List, [], _++_}
 use mathlib.Core.List.{List·Memᴰ as Mem}
 use Prim.Native.Nat.{ℕ}
 use lib.Dec.{T}
 use lib.IntN.{ℤ}
 use lib.ListN.{length}
-use Rattle.laws.specs.Cluster.{unionOf}
+use Rattle.laws.specs.Cluster.{single, unionOf}
 use Rattle.laws.specs.Limits.{Width, narrow, isDegree}
-use Rattle.laws.specs.Lists.{keep}
+use Rattle.laws.specs.Lists.{keep, sublists}
 use Rattle.laws.specs.Row.{Row, isScored}
 use Rattle.laws.specs.Widths.{WidthFacts}
 use Rattle.laws.proofs.Falling.{falling-once}
@@ -24,8 +25,10 @@ use Rattle.shapes.specs.Text.{textBytes}
 use Rattle.answers.specs.Outcome.{Outcome, written}
 use Rattle.trees.specs.Rows.{clustersOf, scoredIn}
 use Rattle.trees.specs.Tree.{treesOn}
+use Rattle.trees.specs.Tuple.{isTuple}
 use Rattle.trees.specs.Heaviest.{weightOf, tieFirst}
 use Rattle.trees.specs.Result.{Result}
+use Rattle.trees.specs.Built.{rowLength}
 use Rattle.trees.proofs.Formula.Rows.{scored-falls}
 use Rattle.trees.proofs.Formula.Blanks.{weight-scored}
 use Rattle.lists.specs.Records.{rowsOf}
@@ -88,6 +91,11 @@ module _ (W : Width) (facts : WidthFacts W) (d : ℕ) (l m : List ℕ) (a : Acce
   trees-same : treesOfList W d l ≡ treesOfList W d m
   trees-same = ap₂ (treesOn (W .taxa) d) clusters-same leaves-same
 
+  lengths-same : (r : Row) → rowLength d rs r ≡ rowLength d qs r
+  lengths-same r =
+      ap (λ (cs : List ℕ). cond (isScored r && not (single (r .cluster))) (length (keep (isTuple d (r .cluster)) (sublists cs))) 0)
+      clusters-same
+
   -- of a tree, the scored rows alone are weighed
   weighs : (n : List ℕ) → Buildable W d (rowsOf W n) → (ys : List ℕ) → Mem ys (treesOfList W d n)
       → weightOf (keep isScored (rowsOf W n)) ys ≡ weightOf (rowsOf W n) ys
@@ -132,7 +140,8 @@ module _ (W : Width) (facts : WidthFacts W) (d : ℕ) (l m : List ℕ) (a : Acce
   -- ---- what the tables tell and what is drawn of them
 
   tells-same : TellsTrees W qs trees (leafResult (builtFrom W d qs))
-  tells-same = subst (λ (ts : List (List ℕ)). TellsTrees W qs ts (leafResult (builtFrom W d qs))) (sym trees-same) (leaf-tells W facts d m j)
+  tells-same =
+      subst (λ (ts : List (List ℕ)). TellsTrees W qs ts (leafResult (builtFrom W d qs))) (sym trees-same) (leaf-tells W facts d m j)
 
   abbrev v : Result
   v = leafResult (builtFrom W d rs)
@@ -183,6 +192,7 @@ module _ (W : Width) (facts : WidthFacts W) (d : ℕ) (l m : List ℕ) (a : Acce
     leaf-set = leaves-same;
     trees-at = at-same;
     trees = trees-same;
+    lengths = lengths-same;
     weights = weights-same;
     first = λ ys. (first-to ys, first-from ys);
     count = by-tables (λ (t : Table). leafResult t .count) (counts-same .0);
