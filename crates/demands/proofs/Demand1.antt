@@ -1,8 +1,7 @@
 -- DEMAND 1 IS MET: every input has its answer, operation by operation.
 --     demand1      the record of `specs/Demands.antt`
 -- Assumes nothing.
-use mathlib.Core.Path.{_≡_, refl, sym, ap, _∙_, subst}
-use mathlib.Core.Logic.{_↔_}
+use mathlib.Core.Path.{_≡_, refl, sym, ap, _∙_}
 use mathlib.Core.Option.{Option}
 use mathlib.Core.List.{List, []}
 use Prim.Native.Nat.{ℕ, zero, suc, _^_, _≤_, _<_}
@@ -10,8 +9,8 @@ use native.Mathlib.Nat.{le-trans}
 use native.Mathlib.Omega.{arith}
 use lib.Dec.{T}
 use lib.IntN.{ℤ}
-use lib.ListN.{length, getD}
-use Rattle.laws.specs.Cluster.{inside, size}
+use lib.ListN.{length}
+use Rattle.laws.specs.Cluster.{size}
 use Rattle.laws.specs.Limits.{narrow, isDegree}
 use Rattle.laws.proofs.Width.{narrow-facts}
 use Rattle.answers.specs.declared.refusal.Refusal.{Refusal}
@@ -31,9 +30,9 @@ use Rattle.gel.specs.Columns.{sheetRows}
 use Rattle.gel.specs.Import.{imported, notImported, importReasons, importSheet}
 use Rattle.gel.proofs.MadeLists.{counted-clusters}
 use Rattle.kept.specs.declared.table.Table.{Table}
-use Rattle.kept.specs.View.{rowAt, clustersDown, tableOf, zeroTable}
+use Rattle.kept.specs.View.{tableOf, zeroTable}
 use Rattle.kept.specs.Facts.{FitTable}
-use Rattle.kept.specs.Rows.{shownRows, leafSet}
+use Rattle.kept.specs.Rows.{leafSet}
 use Rattle.kept.proofs.Laws.Rows.{place-at, place-none, place-iff, leafSet-iff}
 use Rattle.trees.specs.Built.{builtTable}
 use Rattle.shapes.specs.Shape.{Shape}

@@ -2,6 +2,7 @@
 -- and in `Taxa.antt`.
 --     inside→, →inside, apart→, →apart, inside-of-has, has-of-inside     passed on from `Inside.antt`
 --     inside-refl, inside-trans, inside-antisym     inside is an order
+--     taxa-only                              a cluster is told by its taxa
 --     le-of-inside                           a part is no larger a number
 --     zero-inside, zero-of-inside            nothing is inside every cluster, and has nothing else inside
 --     inside-of-taxa, taxon-nonzero          inside, by the taxa of a width; a taxon isn't nothing
@@ -15,7 +16,7 @@
 --     two-parts                              a union of clusters other than the union has two at least
 -- Assumes nothing.
 use mathlib.Core.Path.{_≡_, refl, sym, ap, ap₂, _∙_, subst, subst₂}
-use mathlib.Core.Logic.{_⊎_, inl, inr, _≢_}
+use mathlib.Core.Logic.{_⊎_, inl, inr, _≢_, _↔_}
 use mathlib.Core.Bool.{not, _||_}
 use mathlib.Core.List.{List, [], _∷_, List·Memᴰ as Mem, List·Memᴰ·head as here, List·Memᴰ·tail as there}
 use Prim.Native.Nat.{ℕ, _+_, _-_, _/_, _^_, _≤_, _<_, zero-le, suc-le-suc}
@@ -41,6 +42,10 @@ inside-trans a b c h k = →inside a c (λ t x. inside→ b c k t (inside→ a b
 
 pub inside-antisym : (a b : ℕ) → T (inside a b) → T (inside b a) → a ≡ b
 inside-antisym a b h k = has-ext a b (inside→ a b h) (inside→ b a k)
+
+pub taxa-only : (a b : ℕ) → ((i : ℕ) → T (inside (2 ^ i) a) ↔ T (inside (2 ^ i) b)) → a ≡ b
+taxa-only a b h =
+    has-ext a b (λ t k. has-of-inside t b (h t .0 (inside-of-has t a k))) (λ t k. has-of-inside t a (h t .1 (inside-of-has t b k)))
 
 pub le-of-inside : (a b : ℕ) → T (inside a b) → a ≤ b
 unfolding inside

@@ -40,6 +40,8 @@ pub mod Signed
 pub mod Sort
 -- what stands in ascending places, the largest first
 pub mod Down
+-- lists by their places
+pub mod Places
 -- the first place that passes a test
 pub mod First
 -- the states of a record

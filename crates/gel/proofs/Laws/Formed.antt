@@ -18,12 +18,13 @@ use lib.ListN.{length, getD, take, drop, length-drop, drop-of-length-le}
 use lib.Seq.{length-take-le, getD-take, getD-drop}
 use Rattle.laws.specs.Lists.{every}
 use Rattle.laws.proofs.Keep.{every→}
+use Rattle.laws.proofs.Places.{every→at}
 use Rattle.laws.proofs.First.{first-all}
 use Rattle.gel.specs.Lines.{isMark, lineMax, Line, noLine, lineCount, lineAt, widthOf, isFault, firstFault, isBadSheet}
 use Rattle.gel.specs.Columns.{markAt}
 use Rattle.gel.specs.Form.{marksEnd, isLine, FirstWidth, Formed, faulty, FormIs}
 use Rattle.gel.proofs.Laws.Faults.{fault→right, right→fault, right-line, form-bad}
-use Rattle.gel.proofs.Laws.Lines.{every→at, LineFrom, lines-some, marks-high, line-found}
+use Rattle.gel.proofs.Laws.Lines.{LineFrom, lines-some, marks-high, line-found}
 
 module _ (s : List ℕ) where
   pub record WholeLine (w i p : ℕ) : Type 0 where

@@ -1,5 +1,4 @@
 -- The lines of a sheet, and where its marks end: `specs/Lines.antt` and the first part of `specs/Form.antt`.
---     every→at          a test that all pass, at a place
 --     lines-some        bytes are a line at least
 --     marks-high        where the marks end lies no further than the end of the sheet
 --     marks-none, marks-more     whether the marks from a place on reach another, one byte further at a time
@@ -12,7 +11,7 @@ use mathlib.Core.Path.{_≡_, refl, sym, ap, ap₂, _∙_, subst}
 use mathlib.Core.Logic.{_≢_}
 use mathlib.Core.Bool.{Bool, true, false, not, cond, true≢false, _&&_}
 use mathlib.Core.List.{List, [], _∷_, _++_}
-use Prim.Native.Nat.{ℕ, zero, suc, _+_, _-_, _≤_, _<_}
+use Prim.Native.Nat.{ℕ, _+_, _-_, _≤_, _<_}
 use borrow.Author.Tests.{eqb-true, eq-eqb, ne-eqb, not-true, not-false}
 use native.Mathlib.Decide.{decLe}
 use native.Mathlib.Numerals.{add-one}
@@ -21,21 +20,11 @@ use lib.Dec.{T, eqb, leb, eqb→eq, leb→le, le→leb}
 use lib.ListN.{length, getD, take, drop, length-append, length-drop, List·getD-eq-default, List·getD-append}
 use lib.Seq.{split-at, length-take-le, getD-append-seam, getD-take, getD-drop, drop-drop}
 use Rattle.laws.specs.Lists.{every}
+use Rattle.laws.proofs.Places.{every→at, at→every}
 use Rattle.laws.proofs.First.{first-low, first-high, first-before, first-at, first-of}
 use Rattle.laws.proofs.Tests.{T-and, and-T, T-true, true-T, bool-ext}
 use Rattle.gel.specs.Lines.{lineEnd, isMark, Line, noLine, inFront, linesOf, lineCount, lineAt}
 use Rattle.gel.specs.Form.{marksEnd, isLine}
-
--- ---- a test of bytes, by places
-
-pub every→at : (p : ℕ → Bool) (l : List ℕ) → T (every p l) → (j : ℕ) → j < length l → T (p (getD l j 0))
-every→at p [] h j k = absurd (omega arith)
-every→at p (b ∷ l) h zero k = T-and (p b) (every p l) h .0
-every→at p (b ∷ l) h (suc j) k = every→at p l (T-and (p b) (every p l) h .1) j (omega arith)
-
-at→every : (p : ℕ → Bool) (l : List ℕ) → ((j : ℕ) → j < length l → T (p (getD l j 0))) → T (every p l)
-at→every p [] f = tt
-at→every p (b ∷ l) f = and-T (p b) (every p l) (f 0 (omega arith)) (at→every p l (λ j k. f (suc j) (omega arith)))
 
 -- ---- the first line
 

@@ -5,17 +5,16 @@
 use mathlib.Core.Path.{_≡_, refl, sym, ap, _∙_, subst}
 use mathlib.Core.Logic.{_≢_, _⊎_, inl, inr, _↔_}
 use mathlib.Core.Bool.{Bool, true, false, cond}
-use mathlib.Core.List.{List, _∷_, List·Memᴰ as Mem}
+use mathlib.Core.List.{List, _∷_}
 use Prim.Native.Nat.{ℕ, zero, suc, _^_, _<_}
 use lib.Dec.{T, eqb, eqb→eq}
 use lib.ListN.{length, length-map}
 use Rattle.laws.specs.Cluster.{inside}
-use Rattle.laws.specs.Lists.{keep, keepIf, Once}
+use Rattle.laws.specs.Lists.{keep, keepIf}
 use Rattle.laws.specs.Orders.{downTo, places}
-use Rattle.laws.proofs.Down.{down-map, mem-down, down-mem, down-falling}
-use Rattle.laws.proofs.Falling.{falling-once}
-use Rattle.laws.proofs.Keep.{mem-keep, mem-of-keep, keep-map}
-use Rattle.laws.proofs.Once.{once-keep}
+use Rattle.laws.proofs.Down.{down-map}
+use Rattle.laws.proofs.Keep.{keep-map}
+use Rattle.laws.proofs.Places.{places-once, places-iff}
 use Rattle.laws.proofs.Tests.{eq→eqb, T-false, T-dec, cond-true, cond-false}
 use Rattle.gel.specs.Lines.{one, lineCount, widthOf}
 use Rattle.gel.specs.Columns.{isUnread, clusterOf, scoresIn, markAt, columnAt, unreadColumns, columnsWith}
@@ -23,20 +22,6 @@ use Rattle.gel.specs.Form.{given}
 use Rattle.gel.specs.Facts.{IsRead, GivenBy, Numbered}
 use Rattle.gel.proofs.Laws.Ones.{ones-iff, ones-only, read-iff}
 use Rattle.gel.proofs.Laws.Tallied.{scores-more}
-
--- the places below n that pass a test
-module _ (p : ℕ → Bool) (n : ℕ) where
-  places-once : Once (keep p (places n))
-  places-once = once-keep p (places n) (falling-once (places n) (down-falling (λ (i : ℕ). i) n (λ j k h _. h)))
-
-  places-iff : (j : ℕ) → Mem j (keep p (places n)) ↔ ((j < n) × T (p j))
-  places-iff j = (
-    λ m.
-        let q = mem-of-keep p (places n) m in
-        let k = mem-down (λ (i : ℕ). i) n j (q .0) in
-        (subst (λ (x : ℕ). x < n) (sym (k .2)) (k .1), q .1),
-    λ q. mem-keep p (places n) (down-mem (λ (i : ℕ). i) n j (q .0)) (q .1),
-  )
 
 module _ (s : List ℕ) where
   -- ---- the columns of a cluster

@@ -16,10 +16,10 @@ use native.Mathlib.Omega.{arith}
 use lib.Bits.{bitOr}
 use lib.Dec.{T, eqb, eqb→eq}
 use lib.Pow.{pow-pos}
-use Rattle.laws.specs.Cluster.{inside, apart}
+use Rattle.laws.specs.Cluster.{inside}
 use Rattle.laws.specs.Orders.{downTo}
-use Rattle.laws.proofs.Cluster.{→apart, inside-of-has, has-of-inside, union-apart}
-use Rattle.laws.proofs.Digits.{Has, has-ext, or-has, has-or-l, has-or-r, not-has-zero, pow-has, has-pow, has-lt}
+use Rattle.laws.proofs.Cluster.{taxa-only, →apart, inside-of-has, has-of-inside, union-apart}
+use Rattle.laws.proofs.Digits.{Has, or-has, has-or-l, has-or-r, not-has-zero, pow-has, has-pow, has-lt}
 use Rattle.laws.proofs.Down.{down-length, elem-down-iff}
 use Rattle.laws.proofs.Tests.{eq→eqb, T-true}
 use Rattle.gel.specs.Lines.{one, unread, lineCount}
@@ -89,11 +89,6 @@ module _ (f : ℕ → ℕ) where
           (has-or-l (2 ^ n) (clusterOf (column n)) t (subst (λ (k : ℕ). Has (2 ^ k) t) q (has-pow t))))
       go (no k) ih = below (eqb (f n) one) (ih (omega (arith, k)))
 
--- a cluster is told by its taxa
-told : (a b : ℕ) → ((i : ℕ) → T (inside (2 ^ i) a) ↔ T (inside (2 ^ i) b)) → a ≡ b
-told a b h =
-    has-ext a b (λ t k. has-of-inside t b (h t .0 (inside-of-has t a k))) (λ t k. has-of-inside t a (h t .1 (inside-of-has t b k)))
-
 module _ (s : List ℕ) (j : ℕ) where
   pub ones-iff : OnesOf s j (clusterOf (columnAt s j))
   ones-iff i = (
@@ -102,7 +97,7 @@ module _ (s : List ℕ) (j : ℕ) where
   )
 
   pub ones-only : (c : ℕ) → OnesOf s j c → c ≡ clusterOf (columnAt s j)
-  ones-only c h = told c (clusterOf (columnAt s j)) (λ i. (λ k. ones-iff i .1 (h i .0 k), λ k. h i .1 (ones-iff i .0 k)))
+  ones-only c h = taxa-only c (clusterOf (columnAt s j)) (λ i. (λ k. ones-iff i .1 (h i .0 k), λ k. h i .1 (ones-iff i .0 k)))
 
   pub read-iff : (T (isUnread (columnAt s j)) → ⊥) ↔ IsRead s j
   read-iff =
@@ -136,4 +131,4 @@ all-iff s i = (to, from)
         inside-of-has i (allOf (lineCount s)) (subst (λ (c : ℕ). Has c i) (all-is (lineCount s)) ones)
 
 pub all-only : (s : List ℕ) (c : ℕ) → AreLines s c → c ≡ allOf (lineCount s)
-all-only s c h = told c (allOf (lineCount s)) (λ i. (λ k. all-iff s i .1 (h i .0 k), λ k. h i .1 (all-iff s i .0 k)))
+all-only s c h = taxa-only c (allOf (lineCount s)) (λ i. (λ k. all-iff s i .1 (h i .0 k), λ k. h i .1 (all-iff s i .0 k)))

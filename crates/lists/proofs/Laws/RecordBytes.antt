@@ -9,42 +9,22 @@ use mathlib.Core.Path.{_≡_, sym, ap, _∙_, subst}
 use mathlib.Core.Logic.{_↔_}
 use mathlib.Core.List.{List, map}
 use mathlib.Core.List.{List·Memᴰ as Mem}
-use Prim.Native.Nat.{ℕ, zero, suc, _+_, _*_, _≤_, _<_}
-use native.Mathlib.Decide.{decLt}
+use Prim.Native.Nat.{ℕ, _+_, _*_, _≤_, _<_}
 use native.Mathlib.Nat.{div-add-mod, mul-comm, mul-le-mul-right, suc-mul}
 use native.Mathlib.Omega.{arith}
 use lib.ListN.{length, drop, length-drop}
 use lib.Seq.{length-take-le}
 use Rattle.laws.specs.Limits.{Width}
 use Rattle.laws.specs.Lists.{Once}
-use Rattle.laws.specs.Orders.{downTo}
 use Rattle.laws.specs.Row.{Row}
 use Rattle.laws.proofs.Down.{down-map, mem-down, down-mem}
+use Rattle.laws.proofs.Places.{once→apart, apart→once}
 use Rattle.cluster.specs.Reading.{KeepsBytes}
 use Rattle.cluster.specs.Record.{rowOf}
 use Rattle.lists.specs.Records.{recordsIn, bytesAt, listedAt, rowsOf}
 use Rattle.lists.specs.Joined.{recordsDown, clusterIn}
 use Rattle.lists.specs.Accepted.{Bytes, KeepsAt, Repeats}
 use Rattle.lists.proofs.Laws.Records.{row-iff, record-bytes}
-
--- ---- numbers by places: none stands twice where none is that of an earlier place
-
-abbrev Earlier : (ℕ → ℕ) → ℕ → Type 0
-Earlier f i = (j : ℕ) × (j < i) × (f i ≡ f j)
-
-once→apart : (f : ℕ → ℕ) (n : ℕ) → Once (downTo f n) → (i : ℕ) → i < n → Earlier f i → ⊥
-once→apart f zero o i h q = omega arith
-once→apart f (suc n) o i h q = go (decLt i n) (λ k. once→apart f n (o .1) i k q)
-  where
-    go : Dec (i < n) → (i < n → ⊥) → ⊥
-    go (yes k) ih = ih k
-    go (no k) ih =
-        let e : n ≡ i = omega arith in
-        o .0 (subst (λ (c : ℕ). Mem c (downTo f n)) (sym (ap f e ∙ q .2)) (down-mem f n (q .0) (omega (arith, q .1))))
-
-apart→once : (f : ℕ → ℕ) (n : ℕ) → ((i : ℕ) → i < n → Earlier f i → ⊥) → Once (downTo f n)
-apart→once f zero h = tt
-apart→once f (suc n) h = (λ m. h n (omega arith) (mem-down f n (f n) m), apart→once f n (λ i k. h i (omega arith)))
 
 -- ---- the records of a list
 
