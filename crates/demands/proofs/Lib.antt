@@ -20,7 +20,7 @@ pub mod Sheets
 -- rescoring tables that no build made
 pub mod Reworks
 -- records without a score: they change no answer
-pub mod Blanks
+pub mod Lanes
 -- of each public operation, two outcomes that its promise allows are equal
 pub mod OneOutcome
 -- all of them

@@ -6,7 +6,7 @@ use Rattle.demands.proofs.Demand1.{demand1}
 use Rattle.demands.proofs.Demand2.{demand2}
 use Rattle.demands.proofs.Demand3.{demand3}
 use Rattle.demands.proofs.Reworks.{reworks}
-use Rattle.demands.proofs.Blanks.Lanes.{blank-lanes}
+use Rattle.demands.proofs.Lanes.Blank.{blank-lanes}
 use Rattle.demands.proofs.Sheets.{makes-lists}
 use Rattle.demands.proofs.OneOutcome.{one-outcome}
 

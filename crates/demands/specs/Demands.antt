@@ -1,6 +1,6 @@
 -- THE DEMANDS (RULES 12), each a record whose fields are its sentences, about the definitions that the promises of the public operations
 -- cite. Every request changes this file or leaves it alone. That each is met, for every list of bytes, degree bound, table and room:
--- `proofs/Theorems.antt`. Its words: `Sending.antt` and `Refusals.antt` (demand 1), `Trees.antt` (demand 2), `Worked.antt`.
+-- `proofs/Theorems.antt`. Its words: `Sending.antt` and `Refusals.antt` (demand 1), `Trees.antt` (demand 2), `Worked.antt`, `Lanes.antt`.
 --     Demand1             every input has its answer: success exactly when, each refusal exactly when, and what then stays
 --     FirstTree W d l ys  demand 2: ys is the tree of the list l that is drawn
 --     RowsTell W d l t    demand 2, of each row: the table t tells the trees of the list l
@@ -11,7 +11,7 @@
 --     Demand2             all of this for every accepted list, changed or not, with its table, rescored or not
 --     Demand3             a rescored table is the fresh build, and what a rescoring leaves alone
 --     Reworks             tables that no build made: what stands in a row that a rescoring works out again
---     BlankLanes          records without a score: what they do, which is nothing, and what a rescoring does to the leaf set
+--     BlankLanes          records without a score: they change no answer; and what a rescoring does to the leaf set
 --     madeList s room     the list that an import has put at the start of a room
 --     MakesLists s room   gel sheets: what that list is, and that a build takes it
 --     Demands             all of them, with one outcome for every public operation (`OneOutcome.antt`)
@@ -45,7 +45,7 @@ use Rattle.cluster.specs.Writing.{writeRecord}
 use Rattle.lists.specs.Records.{recordsIn, listedAt, rowsOf}
 use Rattle.lists.specs.Listing.{listed, readList}
 use Rattle.lists.specs.Accepted.{Bytes, Accepted, HasCluster}
-use Rattle.lists.specs.Joined.{recordsDown, hasScore, withoutBlanks}
+use Rattle.lists.specs.ListFrom.{recordsDown, hasScore, withoutUnscored}
 use Rattle.gel.specs.Lines.{widthOf}
 use Rattle.gel.specs.Columns.{columnsWith, sheetRows}
 use Rattle.gel.specs.Facts.{IsRead, GivenBy, AreLines, SheetCluster, SheetRow, Numbered}
@@ -70,7 +70,7 @@ use Rattle.demands.specs.Refusals.{readRefusals, writeRefusals, listRefu
 use Rattle.demands.specs.Refusals.{sheetRefusals, rescoreRefusals, drawRefusals, roomRefusals}
 use Rattle.demands.specs.Trees.{leafSetOf, treesAt, treesOfList, EveryTree, FirstBy, TellsTrees, ShapeOf, printedCount}
 use Rattle.demands.specs.Worked.{WorkedRow}
-use Rattle.demands.specs.Blanks.{SameScored, SameAnswers, KeepsTaxon}
+use Rattle.demands.specs.Lanes.{SameScored, SameAnswers, TaxonAfter}
 use Rattle.demands.specs.OneOutcome.{OneOutcome}
 
 -- ---- demand 1: every list, every degree bound and every kept table gets an answer
@@ -247,7 +247,7 @@ pub record Reworks : Type 0 where
   pub fit : (t : Table) (c : ℕ) (z : ℤ) (s : ℕ) → rescoreTable narrow t c z s .sent .number ≡ 0
       → FitTable narrow (rescoreTable narrow t c z s .given)
 
--- ---- blanks: records without a score
+-- ---- blank lanes: records without a score
 
 pub record BlankLanes : Type 0 where
   -- the taxa of a list's leaf set are those of scored records
@@ -255,14 +255,14 @@ pub record BlankLanes : Type 0 where
       ↔ ((r : Row) × Mem r (rowsOf narrow l) × T (isScored r) × T (inside (2 ^ x) (r .cluster)))
   -- a list with its unscored records left out has the scored ones, unchanged and in their order, and is accepted where there is one
   pub records : (l : List ℕ) → AcceptedBytes narrow l
-      → recordsDown narrow (withoutBlanks narrow l) ≡ keep (hasScore narrow) (recordsDown narrow l)
+      → recordsDown narrow (withoutUnscored narrow l) ≡ keep (hasScore narrow) (recordsDown narrow l)
   pub left : (l : List ℕ) → AcceptedBytes narrow l → (r : Row)
-      → Mem r (rowsOf narrow (withoutBlanks narrow l)) ↔ (Mem r (rowsOf narrow l) × T (isScored r))
+      → Mem r (rowsOf narrow (withoutUnscored narrow l)) ↔ (Mem r (rowsOf narrow l) × T (isScored r))
   pub accepted : (l : List ℕ) → AcceptedBytes narrow l → (r : Row) → Mem r (rowsOf narrow l) → T (isScored r)
-      → AcceptedBytes narrow (withoutBlanks narrow l)
+      → AcceptedBytes narrow (withoutUnscored narrow l)
   -- it then has the same answers, whatever the others name
   pub same : (l : List ℕ) (d : ℕ) → AcceptedBytes narrow l → T (isDegree d) → (r : Row) → Mem r (rowsOf narrow l) → T (isScored r)
-      → SameAnswers d l (withoutBlanks narrow l)
+      → SameAnswers d l (withoutUnscored narrow l)
   -- so have any two lists with the same scored records
   pub any-two : (l m : List ℕ) (d : ℕ) → AcceptedBytes narrow l → AcceptedBytes narrow m → T (isDegree d) → SameScored narrow l m
       → SameAnswers d l m
@@ -271,9 +271,12 @@ pub record BlankLanes : Type 0 where
       → (leafSet t ≡ 0) × (leafRow t ≡ t .rows)
   pub no-tree : (t : Table) → FitTable narrow t → ((i : ℕ) → i < t .rows → T (isScored (rowAt t i)) → ⊥) → (room : List ℕ)
       → (drawTree narrow t room .sent ≡ sentBack 7 0) × (drawText narrow t room .sent ≡ sentBack 7 0)
-  -- an accepted rescoring can take taxa away, or bring them; after any of them the leaf set is that of the changed list
+  -- nor does the line of a list draw any
+  pub no-line : (l : List ℕ) (d : ℕ) → AcceptedBytes narrow l → T (isDegree d)
+      → ((r : Row) → Mem r (rowsOf narrow l) → T (isScored r) → ⊥) → (room : List ℕ) → LineIs d l (refusedLine d (sentBack 7 0)) room
+  -- the taxa that a rescoring leaves or brings; of a built table, after any number of them, `leaf-set` of `RowsTell` once more
   pub rescored : (t : Table) (c : ℕ) (z : ℤ) (s : ℕ) → rescoreTable narrow t c z s .sent .number ≡ 0 → (x : ℕ)
-      → T (inside (2 ^ x) (leafSet (rescoreTable narrow t c z s .given))) ↔ KeepsTaxon t c s x
+      → T (inside (2 ^ x) (leafSet (rescoreTable narrow t c z s .given))) ↔ TaxonAfter t c s x
   pub changed : (l : List ℕ) (d : ℕ) (xs : List Row) → AcceptedBytes narrow l → T (isDegree d)
       → leafSet (rescoreAll narrow (buildTable narrow l d .given) xs) ≡ leafSetOf narrow (changeAll narrow l xs)
 

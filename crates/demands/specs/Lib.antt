@@ -8,6 +8,6 @@ pub mod Trees
 -- a row worked out from the rows of its table
 pub mod Worked
 -- records without a score
-pub mod Blanks
+pub mod Lanes
 -- strict marking: each public operation with its promise
 pub mod OneOutcome

@@ -5,7 +5,7 @@
 -- its number: {5} is 32. That each case is right: `proofs/Theorems.antt`.
 --     houseWith a b       the house list, with the records a and b of {0,1} and {1,2}
 --     house, ofHouse n    the house list, and its tree, with this count
---     underTop            the house list and an unscored {0,1,2,3}
+--     houseAnd r          the house list and one more record
 --     leftOpen a          the house list with {1,2} unscored, and the record a of {0,1}
 --     fifteen, ofFifteen n m     all 15 clusters of four taxa at 0, and their tree, with this count and top row's length
 --     cases               the table
@@ -23,9 +23,8 @@ houseWith a b = score 1 (pos 0) ∷ score 2 (pos 0) ∷ score 4 (pos 0) ∷ a �
 abbrev pub house : List Row
 house = houseWith (score 3 (pos 4)) (score 6 (pos 4))
 
--- the house list under a blank {0,1,2,3}
-abbrev pub underTop : List Row
-underTop = house ++ (noScore 15 ∷ [])
+abbrev pub houseAnd : Row → List Row
+houseAnd r = house ++ (r ∷ [])
 
 -- the tree of the house list, with this count
 abbrev pub ofHouse : ℕ → ToldTree
@@ -66,14 +65,14 @@ cases =
     ∷ refusedFrom (noScore 32 ∷ []) 4 7
     ∷ refusedFrom (noScore 32 ∷ []) 5 7
     -- P7: a blank {3} adds no yeast
-    ∷ drawnFrom (house ++ (noScore 8 ∷ [])) 3 (ofHouse 2)
-    ∷ drawnFrom (house ++ (noScore 8 ∷ [])) 4 (ofHouse 3)
-    ∷ drawnFrom (house ++ (noScore 8 ∷ [])) 5 (ofHouse 3)
+    ∷ drawnFrom (houseAnd (noScore 8)) 3 (ofHouse 2)
+    ∷ drawnFrom (houseAnd (noScore 8)) 4 (ofHouse 3)
+    ∷ drawnFrom (houseAnd (noScore 8)) 5 (ofHouse 3)
     -- B1: nor does a blank {0,1,2,3}, whose row is the last
-    ∷ drawnFrom underTop 3 (ofHouse 2)
-    -- B2, B3: a rescoring scores it, and there is no tree, since {3} has no record; another makes it a blank again
-    ∷ rescoredFrom underTop 3 (score 15 (pos 0)) (15 ∷ []) (refused 7)
-    ∷ rescoredFrom (house ++ (score 15 (pos 0) ∷ [])) 3 (noScore 15) (15 ∷ []) (drawn (ofHouse 2))
+    ∷ drawnFrom (houseAnd (noScore 15)) 3 (ofHouse 2)
+    -- B2: a rescoring scores it, and there is no tree, since {3} has no record. B3: one that was scored becomes a blank
+    ∷ rescoredFrom (houseAnd (noScore 15)) 3 (score 15 (pos 0)) (15 ∷ []) (refused 7)
+    ∷ rescoredFrom (houseAnd (score 15 (pos 0))) 3 (noScore 15) (15 ∷ []) (drawn (ofHouse 2))
     -- P8, P9, P10
     ∷ drawnFrom fifteen 3 (ofFifteen 15 7)
     ∷ drawnFrom fifteen 4 (ofFifteen 25 13)

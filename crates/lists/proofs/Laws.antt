@@ -11,9 +11,9 @@ pub mod Listing
 -- the records of a list as their bytes
 pub mod RecordBytes
 -- records put one after the other
-pub mod Joined
+pub mod ListFrom
 -- a list with its unscored records left out
-pub mod Blanks
+pub mod Without
 -- rows written one after the other
 pub mod Written
 -- records read, one after another

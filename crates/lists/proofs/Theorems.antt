@@ -8,7 +8,7 @@
 --     rows-of-records, read-of-records     the order of records plays no part
 --     accepted-facts, accepted-rules, accepted-some, accepted-few     what is known of the rows of an accepted list
 --     written-accepted, written-rows (Laws/Written.antt)     rows in order, written one after the other, are an accepted list of these rows
---     blanks-records, blanks-rows, blanks-accepted (Laws/Blanks.antt)     an accepted list with its unscored records left out: its records
+--     without-records, without-rows, without-accepted (Laws/Without.antt)     an accepted list with its unscored records left out: its records
 --                                   are the scored ones, in their order, and it is accepted where there is one
 --     list-only, check-only         one outcome of `read_list`, and of `check_list`
 -- Assumes nothing.

@@ -19,7 +19,7 @@ use Rattle.laws.specs.Row.{Row}
 use Rattle.cluster.specs.Bytes.{byteValues}
 use Rattle.cluster.specs.Reading.{KeepsBytes}
 use Rattle.cluster.specs.Record.{bytesOf}
-use Rattle.lists.specs.Joined.{joined}
+use Rattle.lists.specs.ListFrom.{listFrom}
 use Rattle.lists.specs.Records.{recordsIn, bytesAt, listedAt}
 
 abbrev pub Bytes : List ℕ → Type 0
@@ -59,4 +59,4 @@ module _ (W : Width) (l : List ℕ) where
 
 -- ---- rows written
 abbrev pub bytesOfRows : Width → List Row → List ℕ
-bytesOfRows W rs = joined (map (bytesOf W) rs)
+bytesOfRows W rs = listFrom (map (bytesOf W) rs)

@@ -4,7 +4,7 @@ pub mod Rows
 -- the records of a list
 pub mod Records
 -- records put one after the other, and a list with its unscored records left out
-pub mod Joined
+pub mod ListFrom
 -- reading a list: its reasons and its outcome
 pub mod Listing
 -- which lists are taken, in words, and lists that are written

@@ -3,7 +3,7 @@
 --     under C e             the entry lies inside C
 --     Local F               the row formula F depends on the entries inside the row's cluster alone
 --     tuples-local, worked-local     the tuples, and the rules' formula, are local
---     put-own, put-else     a new score in the row of its cluster, and in that of another
+--     put-same, put-unlike     the row of the cluster gets the score, and that of another cluster stays
 --     put-cluster, put-clusters, put-other         what a new score leaves alone
 --     again-is-table, rescore-is-table     the theorem, for any local formula and for that of the rules
 --     others F c t          the rows of t that don't contain c
@@ -73,14 +73,14 @@ module _ (c : ℕ) (z : ℤ) (s : ℕ) where
       go false = refl
 
   -- the row of the cluster, and that of another
-  pub put-own : (r : Row) → r .cluster ≡ c → putScore c z s r ≡ record { cluster = r .cluster; weight = z; state = s }
-  put-own r e = ap (λ (b : Bool). cond b (record { cluster = r .cluster; weight = z; state = s }) r) (eq-eqb (r .cluster) c e)
+  pub put-same : (r : Row) → r .cluster ≡ c → putScore c z s r ≡ record { cluster = r .cluster; weight = z; state = s }
+  put-same r e = ap (λ (b : Bool). cond b (record { cluster = r .cluster; weight = z; state = s }) r) (eq-eqb (r .cluster) c e)
 
-  pub put-else : (r : Row) → r .cluster ≢ c → putScore c z s r ≡ r
-  put-else r n = ap (λ (b : Bool). cond b (record { cluster = r .cluster; weight = z; state = s }) r) (ne-eqb (r .cluster) c n)
+  pub put-unlike : (r : Row) → r .cluster ≢ c → putScore c z s r ≡ r
+  put-unlike r n = ap (λ (b : Bool). cond b (record { cluster = r .cluster; weight = z; state = s }) r) (ne-eqb (r .cluster) c n)
 
   pub put-other : (r : Row) → (T (inside c (r .cluster)) → ⊥) → putScore c z s r ≡ r
-  put-other r n = put-else r (λ e. n (subst (λ (x : ℕ). T (inside c x)) (sym e) (inside-refl c)))
+  put-other r n = put-unlike r (λ e. n (subst (λ (x : ℕ). T (inside c x)) (sym e) (inside-refl c)))
 
   pub put-clusters : (rs : List Row) → clustersOf (map (putScore c z s) rs) ≡ clustersOf rs
   put-clusters = map-through (putScore c z s) (λ (r : Row). r .cluster) (λ (r : Row). r .cluster) put-cluster

@@ -1,4 +1,4 @@
--- The records of a list as their bytes, the last record first: `recordsDown` of `specs/Joined.antt`.
+-- The records of a list as their bytes, the last record first: `recordsDown` of `specs/ListFrom.antt`.
 --     records-sized           each has as many bytes as a record
 --     records-bytes           they are bytes where the list is bytes
 --     records-row-iff         the rows of the list are theirs
@@ -22,7 +22,7 @@ use Rattle.laws.proofs.Places.{once→apart, apart→once}
 use Rattle.cluster.specs.Reading.{KeepsBytes}
 use Rattle.cluster.specs.Record.{rowOf}
 use Rattle.lists.specs.Records.{recordsIn, bytesAt, listedAt, rowsOf}
-use Rattle.lists.specs.Joined.{recordsDown, clusterIn}
+use Rattle.lists.specs.ListFrom.{recordsDown, clusterIn}
 use Rattle.lists.specs.Accepted.{Bytes, KeepsAt, Repeats}
 use Rattle.lists.proofs.Laws.Records.{row-iff, record-bytes}
 

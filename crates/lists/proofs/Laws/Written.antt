@@ -30,10 +30,10 @@ use Rattle.cluster.proofs.Laws.Rule.{kept→keeps, keeps→kept, rules→}
 use Rattle.trees.specs.Rows.{clustersOf}
 use Rattle.lists.specs.Records.{recordsIn, bytesAt, listedAt, rowsOf}
 use Rattle.lists.specs.Rows.{rowsTo}
-use Rattle.lists.specs.Joined.{clusterIn}
+use Rattle.lists.specs.ListFrom.{clusterIn}
 use Rattle.lists.specs.Accepted.{Bytes, Accepted, bytesOfRows}
 use Rattle.lists.proofs.Laws.Bytes.{row-bytes}
-use Rattle.lists.proofs.Laws.Joined.{Sized, joined-length, joined-records, joined-down, joined-bytes, joined-accepted}
+use Rattle.lists.proofs.Laws.ListFrom.{Sized, from-length, from-records, from-down, from-bytes, from-accepted}
 use Rattle.lists.proofs.Laws.Rows.{rows-ascend}
 
 module _ (W : Width) (facts : WidthFacts W) where
@@ -49,10 +49,10 @@ module _ (W : Width) (facts : WidthFacts W) where
     each-sized b m = let q = Memᴰ·of-map (bytesOf W) rs m in ap length (sym (q .2)) ∙ bytesOf-length W (q .0) ∙ sym (facts .spare)
 
     pub written-length : length (bytesOfRows W rs) ≡ length rs * W .recordBytes
-    written-length = joined-length W each each-sized ∙ ap (λ (n : ℕ). n * W .recordBytes) as-many
+    written-length = from-length W each each-sized ∙ ap (λ (n : ℕ). n * W .recordBytes) as-many
 
     pub written-records : recordsIn W (bytesOfRows W rs) ≡ length rs
-    written-records = joined-records W facts each each-sized ∙ as-many
+    written-records = from-records W facts each each-sized ∙ as-many
 
   read-back : (rs : List Row) → ((r : Row) → Mem r rs → T (keepsRules W r)) → map (rowOf W) (map (bytesOf W) rs) ≡ rs
   read-back [] h = refl
@@ -64,11 +64,11 @@ module _ (W : Width) (facts : WidthFacts W) where
     written-down =
         sym (down-map (rowOf W) (bytesAt W (bytesOfRows W rs)) (length rs))
         ∙ ap (λ (n : ℕ). map (rowOf W) (downTo (bytesAt W (bytesOfRows W rs)) n)) (sym (as-many rs))
-        ∙ ap (map (rowOf W)) (joined-down W (each rs) (each-sized rs))
+        ∙ ap (map (rowOf W)) (from-down W (each rs) (each-sized rs))
         ∙ read-back rs rules
 
     pub written-bytes : Bytes (bytesOfRows W rs)
-    written-bytes = joined-bytes (each rs) byte
+    written-bytes = from-bytes (each rs) byte
       where
         byte : (b : List ℕ) → Mem b (each rs) → Bytes b
         byte b m =
@@ -114,5 +114,5 @@ module _ (W : Width) (facts : WidthFacts W) where
 
     pub written-accepted : 1 ≤ length rs → length rs ≤ W .rows → Accepted W (bytesOfRows W rs)
     written-accepted some few =
-        joined-accepted W facts (each rs) (each-sized rs) (rw (as-many rs) some)
+        from-accepted W facts (each rs) (each-sized rs) (rw (as-many rs) some)
         (rw (as-many rs, facts .whole) (mul-le-mul-right (W .recordBytes) few)) each-keeps each-once

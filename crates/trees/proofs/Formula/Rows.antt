@@ -1,4 +1,4 @@
--- Rows that fall: the largest cluster first, none twice, none empty, all within the width.
+-- Rows that fall: the largest cluster first, none twice, none empty, all within the width; and their leaf set.
 --     facts-tail             what holds of rows holds of the smaller ones
 --     above-rest             the first row is above the others
 --     table-rows, table-row, row-table, table-clusters   the rows of a table, by any row formula, are the rows it was made of

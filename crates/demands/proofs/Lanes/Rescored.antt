@@ -22,7 +22,7 @@ use Rattle.answers.specs.Outcome.{Outcome}
 use Rattle.answers.specs.Reasons.{firstReason}
 use Rattle.trees.specs.Rescored.{putScore}
 use Rattle.trees.proofs.Formula.Rows.{leaves-none}
-use Rattle.trees.proofs.Rescore.{put-own, put-else}
+use Rattle.trees.proofs.Rescore.{put-same, put-unlike}
 use Rattle.kept.specs.declared.table.Table.{Table}
 use Rattle.kept.specs.View.{rowAt}
 use Rattle.kept.specs.Facts.{FitTable}
@@ -36,7 +36,7 @@ use Rattle.drawing.specs.Draw.{drawTree, drawText}
 use Rattle.drawing.proofs.Laws.Draw.{tree-refused, text-refused}
 use Rattle.demands.specs.Sending.{sentBack}
 use Rattle.demands.specs.Refusals.{HasRow}
-use Rattle.demands.specs.Blanks.{KeepsTaxon}
+use Rattle.demands.specs.Lanes.{TaxonAfter}
 use Rattle.demands.proofs.Demand1.{demand1}
 use Rattle.demands.proofs.Demand3.{demand3}
 use Rattle.demands.proofs.Reworks.{reworks}
@@ -92,17 +92,17 @@ module _ (t : Table) (c : ℕ) (z : ℤ) (s : ℕ) (taken : rescoreTable narrow 
   named : HasRow t c
   named = demand1 .rescore t c z s .taken .0 taken .1
 
-  to-row : (i : ℕ) → i < t .rows → T (isScored (rowAt u i)) → T (inside (2 ^ x) (rowAt u i .cluster)) → KeepsTaxon t c s x
+  to-row : (i : ℕ) → i < t .rows → T (isScored (rowAt u i)) → T (inside (2 ^ x) (rowAt u i .cluster)) → TaxonAfter t c s x
   to-row i h sc within = go (ℕ-discrete (rowAt t i .cluster) c)
     where
-      go : Dec (rowAt t i .cluster ≡ c) → KeepsTaxon t c s x
+      go : Dec (rowAt t i .cluster ≡ c) → TaxonAfter t c s x
       go (yes e) =
-          let is = new-row i h ∙ put-own c z s (rowAt t i) e in inl (
+          let is = new-row i h ∙ put-same c z s (rowAt t i) e in inl (
             subst (λ (r : Row). T (isScored r)) is sc,
             subst (λ (y : ℕ). T (inside (2 ^ x) y)) e (subst (λ (r : Row). T (inside (2 ^ x) (r .cluster))) is within),
           )
       go (no n) =
-          let is = new-row i h ∙ put-else c z s (rowAt t i) n in inr (
+          let is = new-row i h ∙ put-unlike c z s (rowAt t i) n in inr (
             i,
             h,
             n,
@@ -121,15 +121,15 @@ module _ (t : Table) (c : ℕ) (z : ℤ) (s : ℕ) (taken : rescoreTable narrow 
     subst (λ (q : Row). T (inside (2 ^ x) (q .cluster))) (sym e) within,
   )
 
-  from-row : KeepsTaxon t c s x → Given
+  from-row : TaxonAfter t c s x → Given
   from-row (inl q) =
       let i = named .0 in
       given-by i (named .1) (record { cluster = rowAt t i .cluster; weight = z; state = s })
-      (new-row i (named .1) ∙ put-own c z s (rowAt t i) (named .2)) (q .0) (subst (λ (y : ℕ). T (inside (2 ^ x) y)) (sym (named .2)) (q .1))
+      (new-row i (named .1) ∙ put-same c z s (rowAt t i) (named .2)) (q .0) (subst (λ (y : ℕ). T (inside (2 ^ x) y)) (sym (named .2)) (q .1))
   from-row (inr q) =
-      given-by (q .0) (q .1) (rowAt t (q .0)) (new-row (q .0) (q .1) ∙ put-else c z s (rowAt t (q .0)) (q .2)) (q .3) (q .4)
+      given-by (q .0) (q .1) (rowAt t (q .0)) (new-row (q .0) (q .1) ∙ put-unlike c z s (rowAt t (q .0)) (q .2)) (q .3) (q .4)
 
-  pub rescored : T (inside (2 ^ x) (leafSet (rescoreTable narrow t c z s .given))) ↔ KeepsTaxon t c s x
+  pub rescored : T (inside (2 ^ x) (leafSet (rescoreTable narrow t c z s .given))) ↔ TaxonAfter t c s x
   rescored = (
     λ h. let q = leafSet-iff u x .0 h in to-row (q .0) (omega (arith, q .1, rows-shown)) (q .2) (q .3),
     λ q. leafSet-iff u x .1 (from-row q),

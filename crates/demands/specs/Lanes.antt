@@ -1,9 +1,9 @@
--- The words on blanks: records without a score (RULES 3 and 12).
+-- The words on blank lanes: records without a score (RULES 2, 3 and 12).
 --     tableFor W d l         the table that is built of a list
 --     SameScored W l m       two lists have the same scored records, whatever else they name
 --     SameTrees W d l m      they have the same leaf set, trees, row lengths, count, best weight, tree and text
 --     SameAnswers d l m      and the same line
---     KeepsTaxon t c s x     taxon x is one of a scored cluster of the table t, the cluster c having state s
+--     TaxonAfter t c s x     taxon x is one of a scored cluster, once the cluster c of the table t has state s
 -- Assumes nothing.
 use mathlib.Core.Path.{_≡_}
 use mathlib.Core.Logic.{_⊎_, _≢_, _↔_}
@@ -35,7 +35,8 @@ module _ (W : Width) where
   SameScored l m = (r : Row) → T (isScored r) → Mem r (rowsOf W l) ↔ Mem r (rowsOf W m)
 
   pub record SameTrees (d : ℕ) (l m : List ℕ) : Type 0 where
-    -- the trees: on every cluster, and those of the list; how many tuples a row has; what trees weigh, and the one that is drawn
+    -- the leaf set; the trees on every cluster, and those of the list; how many tuples a row has; what trees weigh, and the one that is
+    -- drawn
     pub leaf-set : leafSetOf W l ≡ leafSetOf W m
     pub trees-at : (C : ℕ) → treesAt W d l C ≡ treesAt W d m C
     pub trees : treesOfList W d l ≡ treesOfList W d m
@@ -57,7 +58,7 @@ pub record SameAnswers (d : ℕ) (l m : List ℕ) : Type 0 where
 
 -- ---- one rescoring
 
-abbrev pub KeepsTaxon : Table → ℕ → ℕ → ℕ → Type 0
-KeepsTaxon t c s x =
+abbrev pub TaxonAfter : Table → ℕ → ℕ → ℕ → Type 0
+TaxonAfter t c s x =
     (T (scored s) × T (inside (2 ^ x) c))
     ⊎ ((i : ℕ) × (i < t .rows) × (rowAt t i .cluster ≢ c) × T (isScored (rowAt t i)) × T (inside (2 ^ x) (rowAt t i .cluster)))

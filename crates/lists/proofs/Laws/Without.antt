@@ -1,8 +1,8 @@
--- A list with its unscored records left out, `withoutBlanks` of `specs/Joined.antt`, where the list is accepted.
---     blanks-bytes            bytes stay bytes
---     blanks-records          its records are the scored records of the list, unchanged and in their order
---     blanks-rows             its rows are the scored rows of the list
---     blanks-accepted         it is accepted where the list has a scored row
+-- A list with its unscored records left out, `withoutUnscored` of `specs/ListFrom.antt`, where the list is accepted.
+--     without-bytes            bytes stay bytes
+--     without-records          its records are the scored records of the list, unchanged and in their order
+--     without-rows             its rows are the scored rows of the list
+--     without-accepted         it is accepted where the list has a scored row
 -- Assumes nothing.
 use mathlib.Core.Path.{_≡_, sym, subst}
 use mathlib.Core.Logic.{_↔_}
@@ -22,9 +22,9 @@ use Rattle.laws.proofs.Keep.{mem-keep, mem-of-keep, length-keep-le}
 use Rattle.laws.proofs.Once.{once-map-keep}
 use Rattle.cluster.specs.Record.{rowOf}
 use Rattle.lists.specs.Records.{recordsIn, bytesAt, rowsOf}
-use Rattle.lists.specs.Joined.{recordsDown, clusterIn, hasScore, withoutBlanks}
+use Rattle.lists.specs.ListFrom.{recordsDown, clusterIn, hasScore, withoutUnscored}
 use Rattle.lists.specs.Accepted.{Bytes, Accepted}
-use Rattle.lists.proofs.Laws.Joined.{Sized, joined-back, joined-bytes, joined-accepted}
+use Rattle.lists.proofs.Laws.ListFrom.{Sized, from-back, from-bytes, from-accepted}
 use Rattle.lists.proofs.Laws.RecordBytes.{records-sized, records-bytes, records-row-iff, records-kept-iff, records-once-iff}
 
 module _ (W : Width) (facts : WidthFacts W) (l : List ℕ) (byte : Bytes l) (a : Accepted W l) where
@@ -37,27 +37,27 @@ module _ (W : Width) (facts : WidthFacts W) (l : List ℕ) (byte : Bytes l) (a :
   left-sized : Sized W left
   left-sized b m = records-sized W l b (from-list b m)
 
-  pub blanks-bytes : Bytes (withoutBlanks W l)
-  blanks-bytes = joined-bytes left (λ b m. records-bytes W l byte b (from-list b m))
+  pub without-bytes : Bytes (withoutUnscored W l)
+  without-bytes = from-bytes left (λ b m. records-bytes W l byte b (from-list b m))
 
-  pub blanks-records : recordsDown W (withoutBlanks W l) ≡ keep (hasScore W) (recordsDown W l)
-  blanks-records = joined-back W facts left left-sized
+  pub without-records : recordsDown W (withoutUnscored W l) ≡ keep (hasScore W) (recordsDown W l)
+  without-records = from-back W facts left left-sized
 
   -- ---- the rows
-  left-row-iff : (r : Row) → Mem r (rowsOf W (withoutBlanks W l)) ↔ ((b : List ℕ) × Mem b left × (r ≡ rowOf W b))
+  left-row-iff : (r : Row) → Mem r (rowsOf W (withoutUnscored W l)) ↔ ((b : List ℕ) × Mem b left × (r ≡ rowOf W b))
   left-row-iff r =
-      subst (λ (bs : List (List ℕ)). Mem r (rowsOf W (withoutBlanks W l)) ↔ ((b : List ℕ) × Mem b bs × (r ≡ rowOf W b)))
-      blanks-records (records-row-iff W (withoutBlanks W l) r)
+      subst (λ (bs : List (List ℕ)). Mem r (rowsOf W (withoutUnscored W l)) ↔ ((b : List ℕ) × Mem b bs × (r ≡ rowOf W b)))
+      without-records (records-row-iff W (withoutUnscored W l) r)
 
-  pub blanks-rows : (r : Row) → Mem r (rowsOf W (withoutBlanks W l)) ↔ (Mem r (rowsOf W l) × T (isScored r))
-  blanks-rows r = (to, from)
+  pub without-rows : (r : Row) → Mem r (rowsOf W (withoutUnscored W l)) ↔ (Mem r (rowsOf W l) × T (isScored r))
+  without-rows r = (to, from)
     where
-      from : Mem r (rowsOf W l) × T (isScored r) → Mem r (rowsOf W (withoutBlanks W l))
+      from : Mem r (rowsOf W l) × T (isScored r) → Mem r (rowsOf W (withoutUnscored W l))
       from h =
           let q = records-row-iff W l r .0 (h .0) in
           left-row-iff r .1 (q .0, mem-keep (hasScore W) (recordsDown W l) (q .1) (subst (λ (x : Row). T (isScored x)) (q .2) (h .1)), q .2)
 
-      to : Mem r (rowsOf W (withoutBlanks W l)) → Mem r (rowsOf W l) × T (isScored r)
+      to : Mem r (rowsOf W (withoutUnscored W l)) → Mem r (rowsOf W l) × T (isScored r)
       to m =
           let q = left-row-iff r .0 m in
           let k = mem-of-keep (hasScore W) (recordsDown W l) (q .1) in
@@ -80,9 +80,9 @@ module _ (W : Width) (facts : WidthFacts W) (l : List ℕ) (byte : Bytes l) (a :
   left-once : Once (map (clusterIn W) left)
   left-once = once-map-keep (clusterIn W) (hasScore W) (recordsDown W l) (records-once-iff W l .0 (a .once))
 
-  pub blanks-accepted : (r : Row) → Mem r (rowsOf W l) → T (isScored r) → Accepted W (withoutBlanks W l)
-  blanks-accepted r m t =
-      joined-accepted W facts left left-sized (some left (left-row-iff r .0 (blanks-rows r .1 (m, t)) .1)) left-few
+  pub without-accepted : (r : Row) → Mem r (rowsOf W l) → T (isScored r) → Accepted W (withoutUnscored W l)
+  without-accepted r m t =
+      from-accepted W facts left left-sized (some left (left-row-iff r .0 (without-rows r .1 (m, t)) .1)) left-few
       (λ b k. records-kept-iff W l .0 (a .kept) b (from-list b k)) left-once
     where
       some : {b : List ℕ} (bs : List (List ℕ)) → Mem b bs → 1 ≤ length bs

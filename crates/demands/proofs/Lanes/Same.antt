@@ -1,5 +1,6 @@
 -- Two lists with the same scored records have the same answers, whatever else they name.
---     same-trees        the record of `specs/Blanks.antt`, for any width
+--     Two               two such lists, built by one degree bound
+--     same-trees        the record of `specs/Lanes.antt`, for any width
 --     same-answers      and with the line
 -- Assumes nothing.
 use mathlib.Core.Path.{_≡_, sym, ap, ap₂, _∙_, subst}
@@ -30,7 +31,7 @@ use Rattle.trees.specs.Heaviest.{weightOf, tieFirst}
 use Rattle.trees.specs.Result.{Result}
 use Rattle.trees.specs.Built.{rowLength}
 use Rattle.trees.proofs.Formula.Rows.{scored-falls}
-use Rattle.trees.proofs.Formula.Blanks.{weight-scored}
+use Rattle.trees.proofs.Formula.Scored.{weight-scored}
 use Rattle.lists.specs.Records.{rowsOf}
 use Rattle.lists.proofs.Laws.Rows.{falling-only}
 use Rattle.kept.specs.declared.table.Table.{Table}
@@ -44,16 +45,26 @@ use Rattle.drawing.proofs.DrawnTables.{drawTree-none, drawText-none}
 use Rattle.report.specs.Words.{signed}
 use Rattle.report.specs.Line.{lineInto}
 use Rattle.demands.specs.Trees.{leafSetOf, treesAt, treesOfList, FirstBy, TellsTrees, printedCount}
-use Rattle.demands.specs.Blanks.{tableFor, SameScored, SameTrees, SameAnswers}
-use Rattle.demands.specs.Demands.{DrawsTrees}
+use Rattle.demands.specs.Lanes.{tableFor, SameScored, SameTrees, SameAnswers}
+use Rattle.demands.specs.Demands.{DrawsTrees, Prints}
 use Rattle.demands.proofs.Drawn.First.{first-there}
 use Rattle.demands.proofs.Drawn.Told.{rows-tell}
 use Rattle.demands.proofs.Drawn.Draws.{draws}
 use Rattle.demands.proofs.Drawn.Lines.{prints}
-use Rattle.demands.proofs.Blanks.Tells.{first-by, same-count, same-best, leaf-tells}
+use Rattle.demands.proofs.Lanes.Tells.{first-by, same-count, same-best, leaf-tells}
 
-module _ (W : Width) (facts : WidthFacts W) (d : ℕ) (l m : List ℕ) (a : AcceptedBytes W l) (b : AcceptedBytes W m) (degree : T (isDegree d))
-    (same : SameScored W l m) where
+-- two lists that are built by one degree bound, and have the same scored records
+pub record Two (W : Width) (d : ℕ) (l m : List ℕ) : Type 0 where
+  pub facts : WidthFacts W
+  pub degree : T (isDegree d)
+  pub one : AcceptedBytes W l
+  pub other : AcceptedBytes W m
+  pub same : SameScored W l m
+
+module _ {W : Width} {d : ℕ} {l m : List ℕ} (two : Two W d l m) where
+  abbrev facts : WidthFacts W
+  facts = two .facts
+
   abbrev rs : List Row
   rs = rowsOf W l
 
@@ -61,10 +72,10 @@ module _ (W : Width) (facts : WidthFacts W) (d : ℕ) (l m : List ℕ) (a : Acce
   qs = rowsOf W m
 
   k : Buildable W d (rowsOf W l)
-  k = buildable facts degree (a .byte) (a .accepted)
+  k = buildable facts (two .degree) (two .one .byte) (two .one .accepted)
 
   j : Buildable W d (rowsOf W m)
-  j = buildable facts degree (b .byte) (b .accepted)
+  j = buildable facts (two .degree) (two .other .byte) (two .other .accepted)
 
   -- ---- the scored rows, and so the trees and what they weigh
 
@@ -74,10 +85,10 @@ module _ (W : Width) (facts : WidthFacts W) (d : ℕ) (l m : List ℕ) (a : Acce
       (scored-falls qs (j .facts .falls)) (record { to = to; from = from })
     where
       to : (r : Row) → Mem r (keep isScored rs) → Mem r (keep isScored qs)
-      to r h = let q = mem-of-keep isScored rs h in mem-keep isScored qs (same r (q .1) .0 (q .0)) (q .1)
+      to r h = let q = mem-of-keep isScored rs h in mem-keep isScored qs (two .same r (q .1) .0 (q .0)) (q .1)
 
       from : (r : Row) → Mem r (keep isScored qs) → Mem r (keep isScored rs)
-      from r h = let q = mem-of-keep isScored qs h in mem-keep isScored rs (same r (q .1) .1 (q .0)) (q .1)
+      from r h = let q = mem-of-keep isScored qs h in mem-keep isScored rs (two .same r (q .1) .1 (q .0)) (q .1)
 
   clusters-same : scoredIn rs ≡ scoredIn qs
   clusters-same = ap clustersOf scored-same
@@ -180,12 +191,12 @@ module _ (W : Width) (facts : WidthFacts W) (d : ℕ) (l m : List ℕ) (a : Acce
   -- ---- all of it, of the tables that are built
 
   table-is : (n : List ℕ) → AcceptedBytes W n → tableFor W d n ≡ builtFrom W d (rowsOf W n)
-  table-is n c = built-table W n d degree (c .accepted)
+  table-is n c = built-table W n d (two .degree) (c .accepted)
 
   -- what is the same of the tables of both rows
   by-tables : {A : Type 0} (f : Table → A) → f (builtFrom W d rs) ≡ f (builtFrom W d qs)
       → f (tableFor W d l) ≡ f (tableFor W d m)
-  by-tables f e = ap f (table-is l a) ∙ e ∙ sym (ap f (table-is m b))
+  by-tables f e = ap f (table-is l (two .one)) ∙ e ∙ sym (ap f (table-is m (two .other)))
 
   pub same-trees : SameTrees W d l m
   same-trees = record {
@@ -204,13 +215,19 @@ module _ (W : Width) (facts : WidthFacts W) (d : ℕ) (l m : List ℕ) (a : Acce
 
 -- ---- the line of both
 
-module _ (d : ℕ) (l m : List ℕ) (a : AcceptedBytes narrow l) (b : AcceptedBytes narrow m) (degree : T (isDegree d))
-    (same : SameScored narrow l m) where
+module _ {d : ℕ} {l m : List ℕ} (two : Two narrow d l m) where
   both : SameTrees narrow d l m
-  both = same-trees narrow narrow-facts d l m a b degree same
+  both = same-trees two
 
   shown : DrawsTrees narrow d l (builtFrom narrow d (rowsOf narrow l))
-  shown = draws narrow narrow-facts d l (buildable narrow-facts degree (a .byte) (a .accepted))
+  shown = draws narrow narrow-facts d l (buildable narrow-facts (two .degree) (two .one .byte) (two .one .accepted))
+
+  -- what is printed of the one list, and of the other
+  one-prints : Prints d l
+  one-prints = prints l d (two .degree) (two .one)
+
+  other-prints : Prints d m
+  other-prints = prints m d (two .degree) (two .other)
 
   -- the line of a tree with this weight and text, of so many
   abbrev told : List ℕ → ℕ → ℤ → List ℕ → Outcome (List ℕ)
@@ -222,14 +239,14 @@ module _ (d : ℕ) (l m : List ℕ) (a : AcceptedBytes narrow l) (b : AcceptedBy
   line-same room = go (empty-or (treesOfList narrow d l))
     where
       go : (treesOfList narrow d l ≡ []) ⊎ (treesOfList narrow d l ≢ []) → lineInto l d room ≡ lineInto m d room
-      go (inl e) = prints l d degree a .no-tree e room ∙ sym (prints m d degree b .no-tree (sym (both .trees) ∙ e) room)
+      go (inl e) = one-prints .no-tree e room ∙ sym (other-prints .no-tree (sym (both .trees) ∙ e) room)
       go (inr n) =
           let q = shown .first n in
           let ys = q .0 in
           let s = shown .shape ys (q .1) in
-          prints l d degree a .line ys (q .1) (s .0) (s .1) room
+          one-prints .line ys (q .1) (s .0) (s .1) room
           ∙ ap₂ (λ (n : ℕ) (z : ℤ). told room n z (textBytes (s .0))) (ap length (both .trees)) (both .weights ys (q .1 .tree))
-          ∙ sym (prints m d degree b .line ys (both .first ys .0 (q .1)) (s .0) (s .1) room)
+          ∙ sym (other-prints .line ys (both .first ys .0 (q .1)) (s .0) (s .1) room)
 
   pub same-answers : SameAnswers d l m
   same-answers = record { trees = both; line = line-same }
