@@ -13,7 +13,7 @@ use crate::variants::Rules;
 /// A change to the records of a list; false if it has no place for it.
 pub type Blank = fn(&mut Vec<Row>, &mut Prng) -> bool;
 
-pub const BLANKS: [(&str, Blank); 10] = [
+pub const BLANKS: [(&str, Blank); 11] = [
     ("a blank over all", over_all),
     ("a blank taxon beside", |rows, rng| {
         let beside = one_of(rng, free(rows));
@@ -31,6 +31,7 @@ pub const BLANKS: [(&str, Blank); 10] = [
         let inside = some_of(rng, leaves(rows));
         put_in(rows, rng, inside)
     }),
+    ("a blank under all", under_all),
     ("two blanks over all", |rows, rng| over_all(rows, rng) && over_all(rows, rng)),
     ("the leaf set blank", |rows, _| leaf_set_blank(rows)),
     ("the leaf set blank under a blank", |rows, rng| over_all(rows, rng) && leaf_set_blank(rows)),
@@ -50,6 +51,19 @@ pub fn blanked(rng: &mut Prng, rows: &mut Vec<Row>) -> String {
 fn over_all(rows: &mut Vec<Row>, rng: &mut Prng) -> bool {
     let own = some_of(rng, free(rows));
     own != 0 && put_in(rows, rng, leaves(rows) | own)
+}
+
+/// All scored ones that are left contain the new blank.
+fn under_all(rows: &mut Vec<Row>, rng: &mut Prng) -> bool {
+    let scored: Vec<u32> = rows.iter().filter(|r| r.scored).map(|r| r.cluster).collect();
+    if scored.is_empty() {
+        return false;
+    }
+    let over = rng.pick(&scored);
+    let under = some_of(rng, over);
+    blank_where(rows, |c| c == under || c & under != under);
+    put_in(rows, rng, under);
+    true
 }
 
 fn leaf_set_blank(rows: &mut [Row]) -> bool {

@@ -21,7 +21,7 @@ use crate::special::specials;
 use crate::stream::{Ask, KINDS, OPERATIONS};
 use crate::table::Table;
 use crate::unbuilt::{
-    bent, blanked, marked_unscored, marks_off, other_tree, random_fit, too_many_children,
+    bent, marked_unscored, marks_off, other_tree, random_fit, rows_unscored, too_many_children,
 };
 use crate::variants::Rules;
 
@@ -183,7 +183,7 @@ fn random_unbuilt(rng: &mut Prng) -> Given {
     if rng.chance(80) {
         return given;
     }
-    made_up(blanked(rng, &given.table), &format!("rows unscored, {}", given.says))
+    made_up(rows_unscored(rng, &given.table), &format!("rows unscored, {}", given.says))
 }
 
 /// A table changed by one of `changes`, from any fit one.

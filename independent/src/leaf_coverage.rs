@@ -40,12 +40,17 @@ impl Leaves {
 type Stand = fn(&Leaves) -> bool;
 
 const NONE_SCORED: &str = "none scored";
+const UNDER_ALL: &str = "a blank under all";
 
 /// How unscored clusters, and the leaf set's row, can stand.
-const STANDS: [(&str, Stand); 9] = [
+const STANDS: [(&str, Stand); 11] = [
     ("a blank over all", |l| l.has_blank(|c| inside(l.all, c) && c != l.all)),
     ("a blank inside", |l| l.has_blank(|c| inside(c, l.all) && c != l.all)),
-    ("a blank beside", |l| l.has_blank(|c| !inside(c, l.all) && !inside(l.all, c))),
+    (UNDER_ALL, |l| l.has_blank(|c| l.rows.iter().all(|r| !r.scored || inside(c, r.cluster)))),
+    ("a blank beside", |l| l.has_blank(|c| c & l.all == 0)),
+    ("a blank across", |l| {
+        l.has_blank(|c| c & l.all != 0 && !inside(c, l.all) && !inside(l.all, c))
+    }),
     ("a blank before every scored row", |l| l.has_blank(|c| c == l.rows[0].cluster)),
     ("a blank behind every scored row", |l| l.has_blank(|c| c == l.rows[l.rows.len() - 1].cluster)),
     ("its row in the middle", |l| {
@@ -65,11 +70,14 @@ type Passed = [(u32, bool)];
 type Move = fn(&Passed) -> bool;
 
 /// How rescorings can move the leaf set.
-const MOVES: [(&str, Move); 5] = [
+const MOVES: [(&str, Move); 6] = [
     ("shrunk", |p| ends(p, |first, last| last != first && inside(last, first))),
     ("grown", |p| ends(p, |first, last| last != first && inside(first, last))),
     ("its row become unscored", |p| {
         ends(p, |first, last| first == last) && !p[0].1 && p[p.len() - 1].1
+    }),
+    ("its row become scored", |p| {
+        ends(p, |first, last| first == last) && p[0].1 && !p[p.len() - 1].1
     }),
     ("all become unscored", |p| ends(p, |first, last| first != 0 && last == 0)),
     ("moved and back", |p| ends(p, |a, b| a == b) && p.iter().any(|step| step.0 != p[0].0)),
@@ -204,10 +212,12 @@ impl LeafCoverage {
 }
 
 /// What an operation has to show. A fit table with none scored holds zeros
-/// alone, as a build makes it, so none is made up.
+/// alone, as a build makes it, so none is made up; and a blank under all leaves
+/// no taxon scored by itself, so that made-up tables with one are rare.
 fn wanted((who, drawn, rescores): (&str, &[&'static str], bool)) -> Vec<&'static str> {
     let stands = STANDS.iter().map(|s| s.0);
-    let stands = stands.filter(|&what| what != NONE_SCORED || !who.ends_with("made up"));
+    let built = !who.ends_with("made up");
+    let stands = stands.filter(move |&what| built || (what != NONE_SCORED && what != UNDER_ALL));
     let moves = MOVES.iter().map(|m| m.0).filter(|_| rescores);
     stands.chain(drawn.iter().copied()).chain(moves).collect()
 }

@@ -3,8 +3,8 @@
 //! And the program against itself: trying sets against the formulas, lists
 //! from parts against plain trying, found sets against the rule of a tree,
 //! lines against those of the scored records alone, sheets against the columns
-//! that they were made of, and sheets and lists against what was worked by hand.
-//! Checks the readings of RULES 3 to 7 and 13.
+//! that they were made of, and sheets and lists against what was worked by
+//! hand. Checks the readings of RULES 3 to 7 and 13.
 
 use crate::answer::{Method, Oracle, Origin};
 use crate::blocks::{Top, full_block, full_width_top};
@@ -208,7 +208,7 @@ fn limits_as_said(seed: u64) -> usize {
     for (d, said, made) in lists {
         let rows = ascending(&made.rows);
         let trees = trees_of_rows(d, &rows, &made.joints, Rules::TRUE, BUDGET);
-        // The top is the union of all, so it is the largest number and last.
+        // All are scored and the top is their union, so it is the largest number and last.
         let count = trees.ok().and_then(|t| t.last().map(|t| t.count));
         wrong += (count != Some(said as u128)) as usize;
     }

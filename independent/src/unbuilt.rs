@@ -149,18 +149,20 @@ fn unscore(table: &mut Table, i: usize) {
 }
 
 /// A fit table with the leaf set's row unscored, or all rows that hold one
-/// taxon, or all; the other rows stay as they are.
-pub fn blanked(rng: &mut Prng, table: &Table) -> Table {
+/// taxon, or one row with all that don't contain it, or all; the other rows
+/// stay as they are.
+pub fn rows_unscored(rng: &mut Prng, table: &Table) -> Table {
     let top = table.leaf_row(Rules::TRUE);
     let some = table.clusters[rng.below(table.n as usize)];
     let taxon = some & some.wrapping_neg();
-    let way = rng.below(8);
+    let way = rng.below(10);
     let goes = |&i: &usize| match way {
         0 => true,
         1..=3 => table.clusters[i] & taxon != 0,
+        4..=5 => some & !table.clusters[i] != 0 || table.clusters[i] == some,
         _ => Some(i) == top,
     };
-    let mut blanked = table.clone();
-    (0..table.n as usize).filter(goes).for_each(|i| unscore(&mut blanked, i));
-    blanked
+    let mut left = table.clone();
+    (0..table.n as usize).filter(goes).for_each(|i| unscore(&mut left, i));
+    left
 }

@@ -1,7 +1,7 @@
-//! The fourteen mistakes that students make (docs/COMPARED.md), each of which can
-//! be switched on in the expected answers. A count at its limit has two sides
-//! and makes two of them. A comparison that is any good tells each of them
-//! from the truth.
+//! The fourteen mistakes that students make (docs/COMPARED.md), each of which
+//! can be switched on in the expected answers. A count at its limit has two
+//! sides and makes two of them. A comparison that is any good tells each of
+//! them from the truth.
 
 #[derive(Clone, Copy, PartialEq, Eq, Debug)]
 pub enum Variant {

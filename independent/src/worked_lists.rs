@@ -220,7 +220,13 @@ fn no_trees() -> Vec<WorkedList> {
     all.push(listed("house, {0,1}, {1,2}, {0,1,2} blank", 4, house_with_blanks(&[3, 6, 7]), None));
     all.push(listed("house, {2} blank", 5, house_with_blanks(&[4]), None));
     all.push(listed("house, {2} and {0,1,2,3} blank", 3, house_with_blanks(&[4, 15]), None));
+    all.push(listed("{0,1} and {0,1,2} at 1, {0} blank", 3, two_over(Row::unscored(1)), None));
     all
+}
+
+/// {0,1} and {0,1,2}, both scored, over a record of {0}.
+fn two_over(first: Row) -> Vec<Row> {
+    vec![first, Row::scored(3, 1), Row::scored(7, 1)]
 }
 
 fn edited(says: &str, d: u32, blanks: &[u32], edits: &[Edit], drawn: Option<Drawn>) -> WorkedList {
@@ -236,9 +242,13 @@ fn rescored_away() -> Vec<WorkedList> {
     let pair = drawn(1, 4, &[1, 2, 3], "(0,1);");
     let over_pair = |count: u32| drawn(count, 5, &[1, 2, 3, 4, 7], "((0,1),2);");
     let whole_again = back(&[score(7, 1), score(4, 0)], &without_2);
+    let says = "{0,1} and {0,1,2} at 1, {0} taken away".into();
+    let (rows, edits) = (two_over(Row::scored(1, 2)), vec![blank(1)]);
     vec![
+        WorkedList { says, d: 3, rows, edits, drawn: None },
         edited("house, {0,1,2} taken away", 3, &[], &[blank(7)], None),
         edited("house, {0,1,2} away and back", 4, &[], &[blank(7), score(7, 1)], of_house(4)),
+        edited("house, {0,1,2} blank, then scored", 3, &[7], &[score(7, 1)], of_house(3)),
         edited("house, all with 2 taken away", 3, &[], &without_2, pair.clone()),
         edited("house, all with 2 taken away", 5, &[8, 15], &without_2, pair),
         edited(
