@@ -1,4 +1,4 @@
--- THE EXAMPLES ARE RIGHT: P1 to P11 (RULES 11), bytes to text, by the operations' own specifications.
+-- THE EXAMPLES ARE RIGHT: P1 to P11 and B1 to B3 (RULES 11), bytes to text, by the operations' own specifications.
 --     right-of-holds      a case that passes the test is right
 --     examples-right      every case of the table is right
 -- Assumes nothing.
