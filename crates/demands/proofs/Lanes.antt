@@ -3,6 +3,8 @@
 mod Tells
 -- two lists with the same scored records
 mod Same
+-- and their printed lines
+mod Printed
 -- the leaf set where none is scored, and after a rescoring
 mod Rescored
 -- all that is said of them

@@ -20,7 +20,7 @@ use Rattle.demands.specs.Sending.{sentBack}
 use Rattle.demands.specs.Lanes.{tableFor, SameScored, SameAnswers}
 use Rattle.demands.specs.Demands.{RowsTell, LineIs, BlankLanes}
 use Rattle.demands.proofs.Demand2.{demand2}
-use Rattle.demands.proofs.Lanes.Same.{same-answers}
+use Rattle.demands.proofs.Lanes.Printed.{same-answers}
 use Rattle.demands.proofs.Lanes.Rescored.{none-scored, no-tree, rescored}
 
 module _ (l : List ℕ) (a : AcceptedBytes narrow l) where

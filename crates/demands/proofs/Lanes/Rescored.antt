@@ -125,7 +125,8 @@ module _ (t : Table) (c : ℕ) (z : ℤ) (s : ℕ) (taken : rescoreTable narrow 
   from-row (inl q) =
       let i = named .0 in
       given-by i (named .1) (record { cluster = rowAt t i .cluster; weight = z; state = s })
-      (new-row i (named .1) ∙ put-same c z s (rowAt t i) (named .2)) (q .0) (subst (λ (y : ℕ). T (inside (2 ^ x) y)) (sym (named .2)) (q .1))
+      (new-row i (named .1) ∙ put-same c z s (rowAt t i) (named .2)) (q .0)
+      (subst (λ (y : ℕ). T (inside (2 ^ x) y)) (sym (named .2)) (q .1))
   from-row (inr q) =
       given-by (q .0) (q .1) (rowAt t (q .0)) (new-row (q .0) (q .1) ∙ put-unlike c z s (rowAt t (q .0)) (q .2)) (q .3) (q .4)
 
