@@ -271,7 +271,7 @@ pub record BlankLanes : Type 0 where
       → (leafSet t ≡ 0) × (leafRow t ≡ t .rows)
   pub no-tree : (t : Table) → FitTable narrow t → ((i : ℕ) → i < t .rows → T (isScored (rowAt t i)) → ⊥) → (room : List ℕ)
       → (drawTree narrow t room .sent ≡ sentBack 7 0) × (drawText narrow t room .sent ≡ sentBack 7 0)
-  -- nor does the line of a list draw any
+  -- and the line of a list without a scored record says so
   pub no-line : (l : List ℕ) (d : ℕ) → AcceptedBytes narrow l → T (isDegree d)
       → ((r : Row) → Mem r (rowsOf narrow l) → T (isScored r) → ⊥) → (room : List ℕ) → LineIs d l (refusedLine d (sentBack 7 0)) room
   -- the taxa that a rescoring leaves or brings; of a built table, after any number of them, `leaf-set` of `RowsTell` once more
