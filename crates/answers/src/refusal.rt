@@ -7,7 +7,7 @@ ghost use Rattle.std.specs.Prelude.{◌≡◌};
 ghost use Rattle.answers.specs.Refusal.{number_of, position_of};
 
 // Why an operation was refused. A case holds a position, from 0, where the rules have one.
-#[derive(Drop)]
+#[derive(Clone, Copy)]
 pub enum Refusal {
     // 1: the list has no bytes.
     NoBytes,
@@ -38,7 +38,7 @@ pub enum Refusal {
 }
 
 // How an operation ended.
-#[derive(Drop)]
+#[derive(Clone, Copy)]
 pub enum Answer {
     // It succeeded, and tells how many bytes or numbers it wrote; 0 where it tells nothing.
     Done(usize),

@@ -1,6 +1,8 @@
 // besttree: reads one list of cluster records from standard input, no more than 1,537 bytes, and prints a line for each of the degree
 // bounds 3, 4 and 5. What a line says is promised by the crate `report`. Where the input can't be read or the output can't be written, a
 // line on standard error says so, and the lines printed are those of the bytes that came.
+#![tactic(auto)]
+
 use answers::Answer;
 use input::read_input;
 use libc::{STDERR_FILENO, STDOUT_FILENO};

@@ -7,6 +7,8 @@
 //     RECORD_BYTES, WEIGHT_MAX, SCORED            how many bytes a record has, the largest weight, and the state of a scored cluster
 // Passed on from the crate `taxa`:
 //     is_inside, is_strict, is_apart, size, is_single, highest, lowest     a cluster as a set of taxa
+#![tactic(auto)]
+
 mod bytes;
 mod reading;
 mod record;

@@ -11,7 +11,7 @@ use crate::rule::is_kept;
 use answers::{Answer, Refusal};
 
 // What reading one record gives: the record is all zero where the answer is a refusal.
-#[derive(Drop)]
+#[derive(Clone, Copy)]
 pub struct Reading {
     pub answer: Answer,
     pub record: Record,

@@ -24,7 +24,7 @@ const WEIGHT_AT: usize = 4;
 const STATE_AT: usize = 8;
 
 // A cluster with its score: bit b of the cluster is taxon b, and a state of 0 says that the cluster is unscored.
-#[derive(Drop)]
+#[derive(Clone, Copy)]
 pub struct Record {
     pub cluster: u32,
     pub weight: i32,

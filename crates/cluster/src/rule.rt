@@ -12,7 +12,7 @@ use crate::state::{UNSCORED, is_state};
 pub const WEIGHT_MAX: i32 = 1000000;
 
 // The record rule that is broken first, in this order.
-#[derive(Drop)]
+#[derive(Clone, Copy)]
 pub enum Rule {
     // None is broken.
     Kept,

@@ -3,6 +3,8 @@
 //     ladlepine_build       the digest of a built table
 //     ladlepine_rescore     the digest of a built table after a number of rescorings of one cluster
 //     ladlepine_import      how many records importing a gel sheet writes into a room
+#![tactic(auto)]
+
 ghost use Rattle.std.specs.Prelude.{◌≡◌};
 ghost use Rattle.laws.specs.Limits.{narrow, row_cap};
 ghost use Rattle.table.specs.Build.{build_table};

@@ -49,7 +49,7 @@ pub fn tree(t: Table, room: &mut [u32]) -> Answer
 }
 
 // What is drawn of a table as a text: the leaf set's row, and the text of its members. All is zero where the answer is a refusal.
-#[derive(Drop)]
+#[derive(Clone, Copy)]
 pub struct DrawnText {
     pub answer: Answer,
     pub row: usize,

@@ -3,6 +3,8 @@
 //     tree                       the clusters of the tree that the leaf set's row marks, ascending, into a room of numbers
 //     text                       its Newick text, into a room of bytes
 //     DrawnText, drawn_text      the same text by value, with the leaf set's row
+#![tactic(auto)]
+
 mod drawing;
 mod writing;
 

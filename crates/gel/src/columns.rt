@@ -9,7 +9,7 @@ ghost use Rattle.gel.specs.Form.{is_bit, Formed, ColumnIs};
 use crate::lines::{NOUGHT, UNREAD};
 
 // The cluster of a column's ones, and 0; where it has a ?, no cluster, and 1.
-#[derive(Drop)]
+#[derive(Clone, Copy)]
 pub(crate) struct Column {
     pub(crate) cluster: u64,
     pub(crate) unread: usize,

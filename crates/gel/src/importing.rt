@@ -22,7 +22,7 @@ const MOST_RECORDS: usize = 128;
 
 // What importing a sheet gives: the answer tells how many records were written, and `unread` how many columns have a ?; 0 where the
 // answer is a refusal.
-#[derive(Drop)]
+#[derive(Clone, Copy)]
 pub struct Import {
     pub answer: Answer,
     pub unread: usize,

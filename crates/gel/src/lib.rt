@@ -2,6 +2,8 @@
 // `requires`, and its `ensures` is one equation to a definition of `specs/`.
 //     Import           what importing a sheet gives: an answer, and how many columns have a ?
 //     import_sheet     a sheet to the list of its clusters
+#![tactic(auto)]
+
 mod columns;
 mod importing;
 mod lines;

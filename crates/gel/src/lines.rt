@@ -26,7 +26,7 @@ const MOST_LINES: usize = 32;
 const MOST_COLUMNS: usize = 128;
 
 // The form of a sheet. Where it isn't whole, `lines` is how many stand before the first at fault.
-#[derive(Drop)]
+#[derive(Clone, Copy)]
 pub(crate) struct Form {
     pub(crate) lines: usize,
     pub(crate) width: usize,

@@ -2,6 +2,8 @@
 // that is made of it to standard output; of a refused sheet nothing is written there. What is said is promised by the crate `report`, and
 // the list by `gel`. Where the input can't be read or the output can't be written, a line on standard error says so, and what is made of
 // the sheet goes by the bytes that came.
+#![tactic(auto)]
+
 use answers::Answer;
 use cluster::RECORD_BYTES;
 use gel::import_sheet;

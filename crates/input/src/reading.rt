@@ -7,7 +7,7 @@ ghost use Rattle.io.specs.Counts.{IsPrefixLen};
 use libc::STDIN_FILENO;
 
 // How many bytes came, and whether the input could be read.
-#[derive(Drop)]
+#[derive(Clone, Copy)]
 pub struct Input {
     pub count: usize,
     pub is_read: bool,

@@ -6,7 +6,7 @@ ghost use Rattle.kept.specs.Blank.{is_nothing, is_blank, is_empty};
 ghost use Rattle.kept.specs.Fields.{result_in, entry_in};
 
 // One row by value: element i of each array.
-#[derive(Drop)]
+#[derive(Clone, Copy)]
 pub(crate) struct Fields {
     pub(crate) cluster: u64,
     pub(crate) weight: i32,

@@ -5,6 +5,8 @@
 //     place_of, leaf_set        where a cluster's row stands, and the union of the scored clusters
 //     is_marked                 whether a row is among the members of another
 //     COUNT_MAX, ..             the rules' limits that the crates above compare with too
+#![tactic(auto)]
+
 mod blank;
 mod fitness;
 mod limits;

@@ -7,7 +7,7 @@ ghost use Rattle.kept.specs.View.{zero_table};
 // Row i of the table is element i of each array. Bit j of `members_low[i]` is the mark of row j in row i for j below 64, and bit j - 64 of
 // `members_high[i]` for the others. Clusters and counts have 64 bits so that a wider table needs no other code; fitness
 // holds them to 32.
-#[derive(Drop)]
+#[derive(Clone, Copy)]
 pub struct Table {
     pub rows: usize,
     pub clusters: [u64; 128],

@@ -43,6 +43,7 @@ module _ {A : Type 0} where
   mem_under (y ∷ ys) r m = mem_under ys (y ∷ r) (there m)
 
   mem_turned : {x : A} (l r : List A) → Mem x l → Mem x (reverse_aux l r)
+  mem_turned [] r x'' = elim x'' [ ]
   mem_turned (y ∷ ys) r (here e) = mem_under ys (y ∷ r) (here e)
   mem_turned (y ∷ ys) r (there m) = mem_turned ys (y ∷ r) m
 

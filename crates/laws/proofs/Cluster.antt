@@ -214,6 +214,7 @@ apart-union_of c (x ∷ xs) h =
 -- ---- unions of lists
 
 pub inside-union_of : (cs : List ℕ) (c : ℕ) → Mem c cs → T (inside c (union_of cs))
+inside-union_of [] c x' = elim x' [ ]
 inside-union_of (x ∷ xs) c (here e) = subst (λ (y : ℕ). T (inside y (bit_or x (union_of xs)))) (sym e) (inside-union_l x (union_of xs))
 inside-union_of (x ∷ xs) c (there m) =
     inside_trans c (union_of xs) (bit_or x (union_of xs)) (inside-union_of xs c m) (inside-union_r x (union_of xs))

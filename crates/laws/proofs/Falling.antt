@@ -38,6 +38,7 @@ falling_once [] f = tt
 falling_once (c ∷ cs) f = (λ m. omega (arith, f.0 c m), falling_once cs f.1)
 
 pub falling_above : (up : List ℕ) (c : ℕ) (cs : List ℕ) → Falling (up ++ (c ∷ cs)) → (a : ℕ) → Mem a up → c < a
+falling_above [] c cs f a x'' = elim x'' [ ]
 falling_above (x ∷ up) c cs f a (here e) = rw e (f.0 c (Memᴰ.append_right up (here refl)))
 falling_above (x ∷ up) c cs f a (there m) = falling_above up c cs f.1 a m
 
@@ -65,6 +66,7 @@ sublist_trans cs L xs o m k = subst (λ (l : List ℕ). Mem l (sublists cs)) (sy
 
 -- what a falling list has of one of its numbers
 pub keep-only : (cs : List ℕ) (c : ℕ) → Falling cs → Mem c cs → keep (λ (x : ℕ). eqb x c) cs ≡ c ∷ []
+keep-only [] c f x'' = elim x'' [ ]
 keep-only (x ∷ cs) c f (here e) =
     ap (λ (b : Bool). keep_if b x (keep (λ (y : ℕ). eqb y c) cs)) (T_true (eqb x c) (eq→eqb x c (sym e)))
     ∙ ap (λ (l : List ℕ). x ∷ l) (keep-none (λ (y : ℕ). eqb y c) cs (λ y m t. omega (arith, f.0 y m, eqb→eq y c t, e)))

@@ -29,6 +29,7 @@ use Rattle.laws.proofs.Tests.{T_and, and_T, T-or, or_l, or_r, T_true, true_T, eq
 
 module _ {A : Type 0} where
   pub mem-keep : (p : A → Bool) (l : List A) {x : A} → Mem x l → T (p x) → Mem x (keep p l)
+  mem-keep p [] {x = x} x4 t = elim x4 [ ]
   mem-keep p (y ∷ ys) {x} (here e) t = go (p y) (subst (λ (z : A). T (p z)) e t)
     where
       go : (b : Bool) → T b → Mem x (keep_if b y (keep p ys))
@@ -53,6 +54,7 @@ module _ {A : Type 0} where
       go false e k r = let h = r k in (there h.0, h.1)
 
   pub every→ : (p : A → Bool) (l : List A) → T (every p l) → (x : A) → Mem x l → T (p x)
+  every→ p [] h x x4 = elim x4 [ ]
   every→ p (y ∷ ys) h x (here e) = subst (λ (z : A). T (p z)) (sym e) (T_and (p y) (every p ys) h).0
   every→ p (y ∷ ys) h x (there m) = every→ p ys (T_and (p y) (every p ys) h).1 x m
 
@@ -79,6 +81,7 @@ module _ {A : Type 0} where
       go (inr k) r = let q = r k in (q.0, there q.1, q.2)
 
   pub →any : (p : A → Bool) (l : List A) {x : A} → Mem x l → T (p x) → T (any p l)
+  →any p [] x4 t = elim x4 [ ]
   →any p (y ∷ ys) (here e) t = or_l (p y) (any p ys) (subst (λ (z : A). T (p z)) e t)
   →any p (y ∷ ys) (there m) t = or_r (p y) (any p ys) (→any p ys m t)
 
@@ -160,6 +163,7 @@ module _ {A B : Type 0} where
       go false e = e
 
   pub mem-bind : (f : A → List B) (l : List A) {x : A} {y : B} → Mem x l → Mem y (f x) → Mem y (bind f l)
+  mem-bind f [] {x = x} {y = y} x4 k = elim x4 [ ]
   mem-bind f (z ∷ zs) {x} {y} (here e) k = Memᴰ.append_left (bind f zs) (subst (λ (a : A). Mem y (f a)) e k)
   mem-bind f (z ∷ zs) (there m) k = Memᴰ.append_right (f z) (mem-bind f zs m k)
 

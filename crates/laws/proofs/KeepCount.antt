@@ -39,6 +39,7 @@ module _ {A : Type 0} where
   length-keep-and-le p q l = omega (arith, ap length (sym (keep-keep q p l) ∙ keep_swap q p l), length-keep-le p (keep q l))
 
   pub length-keep-lt : (q : A → Bool) (l : List A) (x : A) → Mem x l → (T (q x) → ⊥) → length (keep q l) < length l
+  length-keep-lt q [] x x4 n = elim x4 [ ]
   length-keep-lt q (y ∷ ys) x (here e) n = rw (T_false (q y) (λ h. n (rw e h))) (omega (arith, length-keep-le q ys))
   length-keep-lt q (y ∷ ys) x (there m) n = go (q y) (length-keep-lt q ys x m n)
     where

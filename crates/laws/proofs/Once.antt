@@ -39,16 +39,19 @@ module _ {A : Type 0} where
 
   -- take one element out
   cut : {x : A} (l : List A) → Mem x l → List A
+  cut [] x'' = elim x'' [ ]
   cut (y ∷ ys) (here e) = ys
   cut (y ∷ ys) (there m) = y ∷ cut ys m
 
   cut_length : {x : A} (l : List A) (m : Mem x l) → length l ≡ suc (length (cut l m))
   unfolding cut
+  cut_length [] m = elim m [ ]
   cut_length (y ∷ ys) (here e) = refl
   cut_length (y ∷ ys) (there m) = ap suc (cut_length ys m)
 
   cut_mem : {x : A} (l : List A) (m : Mem x l) (y : A) → Mem y l → y ≢ x → Mem y (cut l m)
   unfolding cut
+  cut_mem [] m y _ n = elim m [ ]
   cut_mem (z ∷ zs) (here e) y (here q) n = absurd (n (q ∙ sym e))
   cut_mem (z ∷ zs) (here e) y (there k) n = k
   cut_mem (z ∷ zs) (there m) y (here q) n = here q
@@ -95,6 +98,7 @@ module _ {A : Type 0} where
 
   -- f tells the members apart
   pub map_inj : (f : A → ℕ) (l : List A) → Once (map f l) → (a b : A) → Mem a l → Mem b l → f a ≡ f b → a ≡ b
+  map_inj f [] d a b x4 _ e = elim x4 [ ]
   map_inj f (x ∷ xs) d a b (here p) (here q) e = p ∙ sym q
   map_inj f (x ∷ xs) d a b (here p) (there k) e = absurd (d.0 (Memᴰ.cast (ap f (sym p) ∙ e) (Memᴰ.map f k)))
   map_inj f (x ∷ xs) d a b (there m) (here q) e = absurd (d.0 (Memᴰ.cast (ap f (sym q) ∙ sym e) (Memᴰ.map f m)))

@@ -40,6 +40,7 @@ taxa-mem (suc w) t h = go (ℕ_discrete t w) (λ k. taxa-mem w t k)
     go (no n) r = there (r (omega arith))
 
 pub mem-taxa : (w u : ℕ) → Mem u (taxa w) → (t : ℕ) × (t < w) × (u ≡ 2 ^ t)
+mem-taxa zero u x' = elim x' [ ]
 mem-taxa (suc w) u (here e) = (w, omega arith, e)
 mem-taxa (suc w) u (there m) = let q = mem-taxa w u m in (q.0, omega (arith, q.1), q.2)
 

@@ -3,6 +3,8 @@
 //     Listing        what reading a list gives: an answer, and the rows in ascending order
 //     read_list      a list of records to its rows
 //     check_list     why a list is refused, and nothing more
+#![tactic(auto)]
+
 mod listing;
 mod order;
 mod records;

@@ -23,7 +23,7 @@ use cluster::RECORD_BYTES;
 const LIST_BYTES: usize = 1536;
 
 // What reading a list gives: how many rows, and the rows in ascending order of their clusters; all zero where the answer is a refusal.
-#[derive(Drop)]
+#[derive(Clone, Copy)]
 pub struct Listing {
     pub answer: Answer,
     pub rows: usize,

@@ -14,7 +14,7 @@ use answers::Answer;
 use cluster::{RECORD_BYTES, Reading, read_record};
 
 // Element i of each array is record i; `read` is how many of them there are.
-#[derive(Drop)]
+#[derive(Clone, Copy)]
 pub(crate) struct Records {
     pub(crate) clusters: [u64; 128],
     pub(crate) weights: [i32; 128],

@@ -16,7 +16,7 @@ use kept::{Table, is_fit, leaf_set, place_of};
 
 // What is drawn of a table: the leaf set's row, and its members, which are the first `size` clusters, ascending; the others are zero. All
 // is zero where the answer is a refusal.
-#[derive(Drop)]
+#[derive(Clone, Copy)]
 pub struct Drawn {
     pub answer: Answer,
     pub row: usize,

@@ -2,6 +2,8 @@
 // equation to a definition of `specs/`.
 //     is_tree               whether a set of clusters is a tree on one of them
 //     Drawn, drawn_tree     what is drawn of a table: the answer, the leaf set's row, its members ascending and how many
+#![tactic(auto)]
+
 mod draw;
 mod marks;
 mod nesting;

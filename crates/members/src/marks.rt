@@ -9,7 +9,7 @@ use cluster::is_scored;
 use kept::is_marked;
 
 // The marked rows: their clusters are the first `size`, ascending, and the others are zero; their weights added up; whether each is scored.
-#[derive(Drop)]
+#[derive(Clone, Copy)]
 pub(crate) struct Members {
     pub(crate) clusters: [u64; 128],
     pub(crate) size: usize,

@@ -11,7 +11,7 @@ use signed::unsigned_long_of;
 use table::Table;
 
 // A table that came. Where the stream ended before it did, it isn't whole, and the table doesn't count.
-#[derive(Drop)]
+#[derive(Clone, Copy)]
 pub(crate) struct Given {
     pub is_whole: bool,
     pub table: Table,

@@ -5,6 +5,8 @@
 //     3 to 9    the operations 3 to 9, on the house list (RULES 11)
 //     10        that list as a gel sheet, with a column more that has a ?, imported into a longer room
 //     11        a case that the input cuts off
+#![tactic(auto)]
+
 mod drawings;
 mod layout;
 mod numbers;

@@ -19,7 +19,7 @@ use libc::{STDIN_FILENO, STDOUT_FILENO};
 
 // How many pieces came, and where their bytes end. Where the stream ended before that, or there were too many for their room, it isn't
 // whole, and none count.
-#[derive(Drop)]
+#[derive(Clone, Copy)]
 pub(crate) struct Part {
     pub is_whole: bool,
     pub count: usize,
@@ -27,7 +27,7 @@ pub(crate) struct Part {
 }
 
 // A degree bound, and where the list ends that came after it. Not whole as `Part` is.
-#[derive(Drop)]
+#[derive(Clone, Copy)]
 pub(crate) struct Listed {
     pub is_whole: bool,
     pub degree: u32,
@@ -35,7 +35,7 @@ pub(crate) struct Listed {
 }
 
 // A room as it is before an operation: the first `end` of the bytes. Not whole as `Part` is.
-#[derive(Drop)]
+#[derive(Clone, Copy)]
 pub(crate) struct Room {
     pub is_whole: bool,
     pub bytes: [u8; 512],

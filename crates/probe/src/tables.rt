@@ -41,7 +41,7 @@ pub(crate) fn scores_room() -> [u8; 851955]
 }
 
 // What a rescoring asks for.
-#[derive(Drop)]
+#[derive(Clone, Copy)]
 struct Score {
     cluster: u64,
     weight: i32,

@@ -2,6 +2,8 @@
 //     LINE_CAP       no line is longer
 //     line           the line, into a room
 //     sheet_line     what is said of the import of a gel sheet
+#![tactic(auto)]
+
 mod lines;
 mod sheets;
 mod words;

@@ -2,6 +2,8 @@
 // cases. Nothing public has a `requires`, and each `ensures` is one equation to the kit's own two's complement, `to_z` or `of_z`.
 //     signed_of, unsigned_of               the signed number of a word, and back
 //     signed_long_of, unsigned_long_of     the signed number of a long, and back
+#![tactic(auto)]
+
 mod longs;
 mod words;
 

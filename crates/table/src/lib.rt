@@ -6,6 +6,8 @@
 //     Table, zero_table         one value with room for 128 rows, and the one that is all zero
 //     is_fit                    every sentence of what a fit table is (RULES 6), as one test
 //     place_of, leaf_set        where a cluster's row stands, and the union of the scored clusters
+#![tactic(auto)]
+
 mod making;
 mod rescoring;
 mod searching;

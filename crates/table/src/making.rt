@@ -18,7 +18,7 @@ use kept::{DEGREE_HIGH, DEGREE_LOW, Table, zero_table};
 use lists::read_list;
 
 // What a build gives: the table is all zero where the answer is a refusal.
-#[derive(Drop)]
+#[derive(Clone, Copy)]
 pub struct Built {
     pub answer: Answer,
     pub table: Table,

@@ -16,7 +16,7 @@ use cluster::is_score;
 use kept::{Table, is_fit, place_of};
 
 // What a rescoring gives: the table is as it was given where the answer is a refusal.
-#[derive(Drop)]
+#[derive(Clone, Copy)]
 pub struct Rescored {
     pub answer: Answer,
     pub table: Table,

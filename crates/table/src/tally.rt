@@ -12,7 +12,7 @@ ghost use Rattle.table.specs.Sums.{no_tally, capped_sum, capped_product, is_larg
 
 // A number of tuples with the fields of a row. A count of 0 says that no tuple leads to a tree, and then the rest is zero. The mark has a
 // whole word, so that a tally has no gap to be copied.
-#[derive(Drop)]
+#[derive(Clone, Copy)]
 pub(crate) struct Tally {
     pub tuples: u64,
     pub count: u64,
@@ -23,7 +23,7 @@ pub(crate) struct Tally {
 }
 
 // A count and its mark.
-#[derive(Drop)]
+#[derive(Clone, Copy)]
 pub(crate) struct Count {
     pub count: u64,
     pub mark: u64,

@@ -2,21 +2,21 @@
 //     highest     the largest taxon
 //     lowest      the smallest taxon
 ghost use Rattle.std.specs.Prelude.{◌≡◌};
-ghost use Rattle.laws.specs.Cluster.{highest as Cluster·highest, lowest as Cluster·lowest};
+ghost use Rattle.laws.specs.Cluster.{highest, lowest};
 
 // The number of the highest taxon that a cluster can have.
 const LAST_TAXON: u32 = 63;
 
 // The largest taxon, 0 where there is none. Taxon 0 is put in, which changes the answer of no cluster and spares a branch.
 pub fn highest(c: u64) -> u32
-    ensures { result ≡ Cluster·highest c }
+    ensures { result ≡ highest c }
 {
     LAST_TAXON - u64::leading_zeros(c | 1)
 }
 
 // The smallest taxon, 64 where there is none.
 pub fn lowest(c: u64) -> u32
-    ensures { result ≡ Cluster·lowest 64 c }
+    ensures { result ≡ lowest 64 c }
 {
     u64::trailing_zeros(c)
 }

@@ -4,6 +4,8 @@
 //     is_inside, is_strict, is_apart     how two clusters lie to each other
 //     size, is_single                    how many taxa a cluster has
 //     highest, lowest                    its largest and its smallest taxon
+#![tactic(auto)]
+
 mod ends;
 mod pairs;
 mod sizes;

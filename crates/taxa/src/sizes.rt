@@ -2,11 +2,11 @@
 //     size          the number of taxa
 //     is_single     exactly one taxon
 ghost use Rattle.std.specs.Prelude.{◌≡◌};
-ghost use Rattle.laws.specs.Cluster.{size as Cluster·size, single};
+ghost use Rattle.laws.specs.Cluster.{size, single};
 
 // The number of taxa.
 pub fn size(c: u64) -> u32
-    ensures { result ≡ Cluster·size c }
+    ensures { result ≡ size c }
 {
     u64::count_ones(c)
 }

@@ -6,6 +6,8 @@
 //     add             bytes at the end of a text
 //     add_decimal     the figures of a number at the end of a text
 //     put             bytes at the start of a room
+#![tactic(auto)]
+
 mod adding;
 mod putting;
 mod text;

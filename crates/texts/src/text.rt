@@ -9,7 +9,7 @@ ghost use Rattle.texts.specs.Text.{holding, with_bytes};
 const TEXT_CAP: usize = 172;
 
 // The first `size` bytes are the text; the others are zero.
-#[derive(Drop)]
+#[derive(Clone, Copy)]
 pub struct Text {
     pub bytes: [u8; 172],
     pub size: usize,

@@ -68,6 +68,7 @@ module _ (d : ℕ) (cs : List ℕ) where
       ap (λ (t : List (Entry (Option Sol))). record { row = r; val = value (sol_kind (mark_in cs)) d r t } ∷ t) (second_table rs)
 
   second_counted : (t : List (Entry Res)) → AllCounted t → (e : Entry (Option Sol)) → Mem e (map second t) → Counted e.val
+  second_counted [] c e x'' = elim x'' [ ]
   second_counted (x ∷ t) c e (here q) = subst (λ (z : Entry (Option Sol)). Counted z.val) (sym q) (c x (here refl))
   second_counted (x ∷ t) c e (there m) = second_counted t (λ y k. c y (there k)) e m
 
@@ -180,6 +181,7 @@ module _ (W : Width) (pos-limit : 1 ≤ W.count_max) (d : ℕ) (rs : List Row) (
       ∙ ap (λ (x : Entry Res). row_length d rs x.row) (sym q)
 
   unscored-none : (qs : List Row) (e : Entry Res) → Mem e (true_table d cs qs) → sc e ≡ false → e.val.1 ≡ none
+  unscored-none [] e x'' h = elim x'' [ ]
   unscored-none (r ∷ qs) e (there m) h = unscored-none qs e m h
   unscored-none (r ∷ qs) e (here q) h =
       ap (λ (x : Entry Res). x.val.1) q

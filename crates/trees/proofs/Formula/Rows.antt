@@ -49,6 +49,7 @@ module _ {A : Type 0} (F : Row → List (Entry A) → A) where
   table-row (r ∷ rs) e (there m) = there (table-row rs e m)
 
   pub row-table : (rs : List Row) (r : Row) → Mem r rs → (e : Entry A) × Mem e (worked_from F rs) × (e.row ≡ r)
+  row-table [] r x' = elim x' [ ]
   row-table (q ∷ rs) r (here p) = (record { row = q; val = F q (worked_from F rs) }, here refl, sym p)
   row-table (q ∷ rs) r (there m) = let x = row-table rs r m in (x.0, there x.1, x.2)
 

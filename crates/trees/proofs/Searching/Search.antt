@@ -111,6 +111,7 @@ module _ {A : Type 0} (k : Kind A) where
 
   pub lookup_row : (es : List (Entry A)) → Descends (map cl es) → (e : Entry A) → Mem e es
       → lookup (cl e) es ≡ cond (sc e) e.val k.none
+  lookup_row [] h e x'' = elim x'' [ ]
   lookup_row (x ∷ xs) h e (here q) = rw q (lookup_here x xs h)
   lookup_row (x ∷ xs) h e (there m) =
       lookup_other (cl e) x xs (λ q. omega (arith, descends_first cl x xs h e m)) ∙ lookup_row xs h.1 e m

@@ -66,6 +66,7 @@ pub apart_rest : (c : ℕ) (cs : List ℕ) → T (all_apart (c ∷ cs)) → T (a
 apart_rest c cs h = (T_and (every (λ (y : ℕ). apart c y) cs) (all_apart cs) h).1
 
 pub apart_of_tuple : (cs : List ℕ) → T (all_apart cs) → (a b : ℕ) → Mem a cs → Mem b cs → (a ≡ b) ⊎ T (apart a b)
+apart_of_tuple [] h a b x3 _ = elim x3 [ ]
 apart_of_tuple (c ∷ cs) h a b (here p) (here q) = inl (cc)
 apart_of_tuple (c ∷ cs) h a b (here p) (there k) = inr (rw p (apart-first c cs h b k))
 apart_of_tuple (c ∷ cs) h a b (there m) (here q) = inr (rw q (apart_sym c a (apart-first c cs h a m)))

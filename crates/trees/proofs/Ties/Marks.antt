@@ -76,6 +76,7 @@ marks-one (x ∷ xs) c ys f = rw (T_false (eqb x c) other) (marks-one xs c ys f.
     other t = omega (arith, f.0 c (Memᴰ.append_right xs (here refl)), eqb→eq x c t)
 
 pub marks-one-mem : (cs : List ℕ) (c : ℕ) → Falling cs → Mem c cs → (k : ℕ) × (k < length cs) × (marks_in cs (one c) ≡ 2 ^ k)
+marks-one-mem [] c f x'' = elim x'' [ ]
 marks-one-mem (x ∷ cs) c f (here e) =
     (length cs, omega arith, rw e (marks-one [] x cs f))
 marks-one-mem (x ∷ cs) c f (there m) =
@@ -83,6 +84,7 @@ marks-one-mem (x ∷ cs) c f (there m) =
     (q.0, omega (arith, q.1), rw (T_false (eqb x c) (λ t. omega (arith, f.0 c m, eqb→eq x c t))) q.2)
 
 pub marks_inj : (cs : List ℕ) (p q : Fam) → marks_in cs p ≡ marks_in cs q → (c : ℕ) → Mem c cs → p c ≡ q c
+marks_inj [] p q e c m = elim m [ ]
 marks_inj (x ∷ cs) p q e c m = go (step (p x) (q x) e) m (λ h k. marks_inj cs p q h c k)
   where
     step : (a b : Bool) → cond a (2 ^ length cs + marks_in cs p) (marks_in cs p) ≡ cond b (2 ^ length cs + marks_in cs q) (marks_in cs q)
@@ -160,6 +162,7 @@ weight_join (r ∷ rs) p q d = go (p r.cluster) (q r.cluster) (d r.cluster) (wei
     go false false n e = e
 
 pub weight-one : (rs : List Row) → Falling (clusters_of rs) → (r : Row) → Mem r rs → weight_in rs (one r.cluster) ≡ r.weight
+weight-one [] f r x'' = elim x'' [ ]
 weight-one (x ∷ rs) f r (here e) =
     let own = eq→eqb x.cluster r.cluster (ap (λ (z : Row). z.cluster) (sym e)) in
     rw (T_true (eqb x.cluster r.cluster) own, weight-none rs (one r.cluster) below, +ℤ_idr) (ap (λ (z : Row). z.weight) (sym e))

@@ -33,6 +33,7 @@ use Rattle.trees.proofs.Ties.Marks.{marks-lt, marks_ext, marks_of_inj}
 -- ---- the largest of some clusters
 
 pub largest-le : (l : List ℕ) (x : ℕ) → Mem x l → x ≤ largest l
+largest-le [] x x3 = elim x3 [ ]
 largest-le (c ∷ cs) x (here e) = rw e (le-max_left c (largest cs))
 largest-le (c ∷ cs) x (there m) = omega (arith, largest-le cs x m, le-max_right c (largest cs))
 
