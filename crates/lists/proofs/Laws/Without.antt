@@ -6,7 +6,7 @@
 -- Assumes nothing.
 use mathlib.Core.Path.{◌≡◌, sym, subst}
 use mathlib.Core.Logic.{◌↔◌}
-use mathlib.Core.List.{List, ◌∷◌, map}
+use mathlib.Core.List.{List, [], ◌∷◌, map}
 use mathlib.Core.List.{Memᴰ as Mem}
 use Prim.Native.Nat.{ℕ, ◌*◌, ◌≤◌}
 use native.Mathlib.Nat.{div-add-mod, mul_comm, mul-le-mul_right}
@@ -86,4 +86,5 @@ module _ (W : Width) (facts : WidthFacts W) (l : List ℕ) (byte : Bytes l) (a :
       (λ b k. (records-kept_iff W l).0 a.kept b (from_list b k)) left-once
     where
       some : {b : List ℕ} (bs : List (List ℕ)) → Mem b bs → 1 ≤ length bs
+      some {b = b} [] k = elim k [ ]
       some (x ∷ bs) k = omega arith
