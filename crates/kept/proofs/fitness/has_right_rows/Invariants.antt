@@ -1,6 +1,6 @@
--- The invariant and the measure of `kept::fitness::has_right_rows`. Assumes nothing.
-use mathlib.Core.Path.{◌≡◌}
-use Prim.Native.Nat.{◌≤◌}
+-- The loop of `kept::fitness::has_right_rows`: all rows are right where the first i are, and i is at most the room for rows. The measure
+-- is i. Assumes nothing.
+use Rattle.std.proofs.Common.{◌≡◌, ◌≤◌}
 use Rattle.laws.specs.Limits.{narrow, row_cap}
 use Rattle.kept.specs.View.{clusters_down}
 use Rattle.kept.specs.Fit.{has_right_rows}

@@ -1,6 +1,5 @@
--- The invariant and the measure of `kept::fitness::is_rising`. Assumes nothing.
-use mathlib.Core.Path.{◌≡◌}
-use Prim.Native.Nat.{◌≤◌}
+-- The loop of `kept::fitness::is_rising`: all clusters ascend where the first i do, and i is at most n. The measure is i. Assumes nothing.
+use Rattle.std.proofs.Common.{◌≡◌, ◌≤◌}
 use Rattle.kept.specs.Fit.{is_rising}
 use Rattle.kept.proofs.fitness.is_rising.Given as goal
 

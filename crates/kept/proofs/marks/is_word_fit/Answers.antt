@@ -1,93 +1,60 @@
--- `kept::marks::is_word_fit` meets its contract. The invariant: each set bit of the word passes where each of the rest does, and the rest
--- is no larger. The measure is the rest. Assumes nothing.
-use borrow.Author.Tests.{lt-ltb, le-ltb}
-use mathlib.Core.Path.{◌≡◌, refl, sym, ◌∙◌}
-use mathlib.Core.Bool.{true, false}
-use Prim.Native.Nat.{◌-◌, ◌^◌, ◌≤◌, ◌<◌}
-use native.Mathlib.Omega.{arith}
-use lib.Bits.{bit_and}
-use lib.Pow.{pow_pos}
+-- `kept::marks::is_word_fit` meets its contract: a set bit that fails ends the walk, one that passes leaves the rest, and no bit is left at
+-- the end. Assumes nothing.
+use Rattle.std.proofs.Common.{◌≡◌, ◌-◌, ◌^◌, ◌<◌, Bool, true, false, bit_and, sym, ◌∙◌, arith, lt-ltb, le-ltb}
 use Rattle.laws.specs.Cluster.{lowest}
-use Rattle.laws.proofs.Cluster.{le_of_inside}
 use Rattle.laws.proofs.Lowest.{lowest_in, lowest_dropped}
-use Rattle.laws.proofs.Tests.{passed, failed}
-use Rattle.kept.specs.Fields.{is_mark_fit}
-use Rattle.kept.proofs.Laws.Marks.{Marked, marked→, →marked, mark-lt}
+use Rattle.kept.specs.Fields.{every_bit, is_mark_fit}
+use Rattle.kept.proofs.Laws.Marks.{Marked, →marked, mark-lt}
 use Rattle.kept.proofs.Laws.Words.{every_bit-none, every_bit_fails, every_bit-drop}
 use Rattle.kept.proofs.marks.is_word_fit.Goals as goal
 use Rattle.kept.proofs.marks.is_word_fit.Goals.{After-lowest-bit}
 
-pub loop-rest-init : goal.loop-rest-init
-loop-rest-init c = (omega arith, refl)
-
--- ---- places
-
 -- ---- the lowest set bit
+rest_word : (c : goal.After-lowest-bit) → c.loop-rest.rest < 2 ^ 64
+rest_word c = omega arith
 
-rest-word : (c : goal.After-lowest-bit) → c.loop-rest.rest < 2 ^ 64
-rest-word c = omega arith
-
-bit-set : (c : goal.After-lowest-bit) → Marked c.loop-rest.rest c.lowest-bit.result
-bit-set c =
+bit_set : (c : goal.After-lowest-bit) → Marked c.loop-rest.rest c.lowest-bit.result
+bit_set c =
     let rest = c.loop-rest.rest in
-    rw c.lowest-bit.ensures (→marked rest (lowest 64 rest) (lowest_in 64 rest (rest-word c) (λ e. omega arith)))
-
-bit-lt : (c : goal.After-lowest-bit) → c.lowest-bit.result < 64
-bit-lt c = mark-lt 64 c.loop-rest.rest c.lowest-bit.result (omega arith) (bit-set c)
-
-bit_le : (c : goal.After-lowest-bit) → 2 ^ c.lowest-bit.result ≤ c.loop-rest.rest
-bit_le c = le_of_inside _ _ (marked→ _ _ (bit-set c))
+    rw c.lowest-bit.ensures (→marked rest (lowest 64 rest) (lowest_in 64 rest (rest_word c) c.loop-rest-test.true))
 
 -- without it
+dropped : (c : goal.After-lowest-bit) → let rest = c.loop-rest.rest in bit_and rest (rest - 1) ≡ rest - 2 ^ c.lowest-bit.result
+dropped c = rw c.lowest-bit.ensures (lowest_dropped 64 c.loop-rest.rest (rest_word c) c.loop-rest-test.true)
 
-dropped : (c : goal.After-lowest-bit)
-    → let rest = c.loop-rest.rest in bit_and rest (rest - 1) ≡ rest - 2 ^ c.lowest-bit.result
-dropped c = rw c.lowest-bit.ensures (lowest_dropped 64 c.loop-rest.rest (rest-word c) (λ e. omega arith))
+abbrev passes : goal.After-lowest-bit → Bool
+passes c = is_mark_fit c.args.clusters.now c.args.n c.args.cluster c.args.base c.lowest-bit.result
 
-pub returns-then-n-j : goal.returns-then-n-j
-returns-then-n-j c =
+-- a bit that fails is one of the word's
+fails : (c : goal.After-lowest-bit) → passes c ≡ false
+    → let a = c.args in false ≡ every_bit a.word 64 (is_mark_fit a.clusters.now a.n a.cluster a.base)
+fails c e =
     let a = c.args in
-    let p = is_mark_fit a.clusters.now a.n a.cluster a.base in
-    let past : p c.lowest-bit.result ≡ false = rw (le-ltb _ _ c.if-n-j.true) in
-    sym (c.loop-rest.invariant.1 ∙ every_bit_fails 64 p c.loop-rest.rest c.lowest-bit.result (bit-lt ((goal.at.returns-then-n-j c).After-lowest-bit)) (bit-set ((goal.at.returns-then-n-j c).After-lowest-bit)) past)
+    let rest = c.loop-rest.rest in
+    let small = mark-lt 64 rest c.lowest-bit.result (rest_word c) (bit_set c) in
+    sym (c.loop-rest.invariant.1
+    ∙ every_bit_fails 64 (is_mark_fit a.clusters.now a.n a.cluster a.base) rest c.lowest-bit.result small (bit_set c) e)
+
+-- ---- the exits
+pub returns-then-n-j : goal.returns-then-n-j
+returns-then-n-j c = fails ((goal.at.returns-then-n-j c).After-lowest-bit) (rw (le-ltb _ _ c.if-n-j.true))
 
 pub returns-then-not-is_inside : goal.returns-then-not-is_inside
 returns-then-not-is_inside c =
-    let a = c.args in
-    let p = is_mark_fit a.clusters.now a.n a.cluster a.base in
-    let outside = failed c.is_inside.ensures c.if-not-is_inside.true-raw in
-    let fails : p c.lowest-bit.result ≡ false = rw (lt-ltb _ _ c.if-n-j.false, outside) in
-    sym (c.loop-rest.invariant.1 ∙ every_bit_fails 64 p c.loop-rest.rest c.lowest-bit.result (bit-lt ((goal.at.returns-then-not-is_inside c).After-lowest-bit)) (bit-set ((goal.at.returns-then-not-is_inside c).After-lowest-bit)) fails)
+    fails ((goal.at.returns-then-not-is_inside c).After-lowest-bit) (rw (lt-ltb _ _ c.if-n-j.false, sym c.if-not-is_inside.ensures))
 
 pub loop-rest-preserved : goal.loop-rest-preserved
 loop-rest-preserved c =
+    let p = (goal.at.loop-rest-preserved c).After-lowest-bit in
     let a = c.args in
-    let p = is_mark_fit a.clusters.now a.n a.cluster a.base in
-    let within = passed c.is_inside.ensures c.if-not-is_inside.false-raw in
-    let passes : p c.lowest-bit.result ≡ true = rw (lt-ltb _ _ c.if-n-j.false, within) in
-    rw (dropped ((goal.at.loop-rest-preserved c).After-lowest-bit))
-    (omega arith, c.loop-rest.invariant.1 ∙ every_bit-drop 64 p c.loop-rest.rest c.lowest-bit.result (bit-set ((goal.at.loop-rest-preserved c).After-lowest-bit)) passes)
+    let passed : passes p ≡ true = rw (lt-ltb _ _ c.if-n-j.false, sym c.if-not-is_inside.ensures) in
+    rw (dropped p) (
+      omega arith,
+      c.loop-rest.invariant.1
+          ∙ every_bit-drop 64 (is_mark_fit a.clusters.now a.n a.cluster a.base) c.loop-rest.rest c.lowest-bit.result (bit_set p) passed,
+    )
 
 pub returns : goal.returns
 returns c =
     let a = c.args in
-    let p = is_mark_fit a.clusters.now a.n a.cluster a.base in
-    sym (c.loop-rest.invariant.1 ∙ rw c.loop-rest-test.false (every_bit-none 64 p))
-
-pub overflow_cast-j : goal.overflow_cast-j
-overflow_cast-j c = record { fits = omega (arith, bit-lt ((goal.at.overflow_cast-j c).After-lowest-bit)) }
-
-pub overflow_add-j : goal.overflow_add-j
-overflow_add-j c = record { fits = omega (arith, bit-lt ((goal.at.overflow_add-j c).After-lowest-bit)) }
-
-pub offset_bounds-clusters-j : goal.offset_bounds-clusters-j
-offset_bounds-clusters-j c = omega arith
-
-pub bounds-clusters-j : goal.bounds-clusters-j
-bounds-clusters-j c = omega arith
-
-pub overflow_sub-rest : goal.overflow_sub-rest
-overflow_sub-rest c = omega arith
-
-pub loop-rest-smaller : goal.loop-rest-smaller
-loop-rest-smaller c = rw (dropped ((goal.at.loop-rest-smaller c).After-lowest-bit)) (omega (arith, bit_le ((goal.at.loop-rest-smaller c).After-lowest-bit), pow_pos c.lowest-bit.result))
+    sym (c.loop-rest.invariant.1 ∙ rw c.loop-rest-test.false (every_bit-none 64 (is_mark_fit a.clusters.now a.n a.cluster a.base)))

@@ -1,6 +1,6 @@
--- The invariant and the measure of `kept::marks::is_word_fit`. Assumes nothing.
-use mathlib.Core.Path.{◌≡◌}
-use Prim.Native.Nat.{◌≤◌}
+-- The invariant of `kept::marks::is_word_fit`: each set bit of the word passes where each of the rest does, and the rest is no larger. The
+-- measure is the rest. Assumes nothing.
+use Rattle.std.proofs.Common.{◌≡◌, ◌≤◌}
 use Rattle.kept.specs.Fields.{every_bit, is_mark_fit}
 use Rattle.kept.proofs.marks.is_word_fit.Given as goal
 

@@ -1,6 +1,6 @@
--- The invariant and the measure of `kept::rows::place_among`. Assumes nothing.
-use mathlib.Core.Path.{◌≡◌}
-use Prim.Native.Nat.{◌-◌, ◌≤◌}
+-- The loop of `kept::rows::place_among`: what is found in all places is what is found from place i on, and i is at most n. The measure is
+-- the places left. Assumes nothing.
+use Rattle.std.proofs.Common.{◌-◌, ◌≡◌, ◌≤◌}
 use Rattle.laws.specs.Orders.{first_from}
 use Rattle.kept.specs.Rows.{place_among}
 use Rattle.kept.proofs.Laws.Rows.{is_cluster_at}
