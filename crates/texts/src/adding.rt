@@ -10,6 +10,7 @@ use crate::text::{Text, add_byte};
 const NOUGHT: u8 = 48;
 
 // Bytes at the end of a text, as many as it has room for.
+#[tactic(auto, using(crate::proofs::Laws::with_more, crate::proofs::Laws::with_all))]
 pub fn add(text: Text, bytes: &[u8]) -> Text
     ensures { result ≡ with_bytes text bytes.now }
 {
@@ -23,6 +24,7 @@ pub fn add(text: Text, bytes: &[u8]) -> Text
 }
 
 // The figures of `n` at the end of a text: those of a tenth of it first, then the last.
+#[tactic(auto, using(crate::proofs::Laws::with_low, crate::proofs::Laws::with_high))]
 pub fn add_decimal(text: Text, n: u64) -> Text
     ensures { result ≡ with_bytes text (decimal n) }
 {

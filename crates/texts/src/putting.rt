@@ -4,7 +4,6 @@ ghost use Rattle.std.specs.Prelude.{◌≡◌, []};
 ghost use Rattle.answers.specs.Outcome.{outcome_of, written};
 
 use answers::{Answer, Refusal};
-use bytes::copy;
 
 // Bytes at the start of a room; the answer tells how many. Refused 11 where the room is shorter, which is then left as it was.
 pub fn put(bytes: &[u8], room: &mut [u8]) -> Answer
@@ -13,5 +12,7 @@ pub fn put(bytes: &[u8], room: &mut [u8]) -> Answer
     if room.len() < bytes.len() {
         return Answer::Refused(Refusal::NoRoom);
     }
-    Answer::Done(copy(bytes, room))
+    let n = bytes.len();
+    room[..n].copy_from_slice(bytes);
+    Answer::Done(n)
 }

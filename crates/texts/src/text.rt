@@ -26,6 +26,7 @@ pub fn empty() -> Text
 }
 
 // A byte at the end of a text that has room for it.
+#[tactic(auto, using(crate::proofs::Laws::with_none, crate::proofs::Laws::with_room))]
 pub(crate) fn add_byte(text: Text, byte: u8) -> Text
     ensures { result ≡ with_bytes text (byte ∷ []) }
 {
