@@ -70,4 +70,4 @@ module _ {W : Width} (facts : WidthFacts W) where
 
   pub changes_accepted : {l : List ℕ} (xs : List Row) → AcceptedBytes W l → AcceptedBytes W (change_all W l xs)
   changes_accepted [] k = k
-  changes_accepted (x ∷ xs) k = changes_accepted xs (change_accepted x k)
+  changes_accepted {l = l} (x ∷ xs) k = changes_accepted {l = change_one W l x} xs (change_accepted x k)

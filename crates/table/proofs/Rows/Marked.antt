@@ -25,6 +25,7 @@ use Rattle.trees.proofs.Ties.Marks.{marks_ext}
 use Rattle.kept.specs.Marks.{has_mark, every_marked, is_marked_in}
 
 pub marked-mem : (cs : List ℕ) (m c : ℕ) → T (is_marked_in cs m c) → Mem c cs
+marked-mem [] m c h = elim h [ ]
 marked-mem (x ∷ cs) m c h = go (T-or (eqb x c && has_mark m (length cs)) (is_marked_in cs m c) h) (marked-mem cs m c)
   where
     go : T (eqb x c && has_mark m (length cs)) ⊎ T (is_marked_in cs m c) → (T (is_marked_in cs m c) → Mem c cs) → Mem c (x ∷ cs)
@@ -34,6 +35,7 @@ marked-mem (x ∷ cs) m c h = go (T-or (eqb x c && has_mark m (length cs)) (is_m
 -- ---- every marked row
 
 pub every_marked→ : (cs : List ℕ) (m : ℕ) (p : ℕ → Bool) → T (every_marked cs m p) → (c : ℕ) → T (is_marked_in cs m c) → T (p c)
+every_marked→ [] m p h c t = elim t [ ]
 every_marked→ (x ∷ cs) m p h c t =
     let q = T_and (not (has_mark m (length cs)) || p x) (every_marked cs m p) h in
     go q.0 (T-or (eqb x c && has_mark m (length cs)) (is_marked_in cs m c) t) (every_marked→ cs m p q.1 c)

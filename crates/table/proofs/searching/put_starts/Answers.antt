@@ -11,8 +11,11 @@ loop-taxon-init c = subst (Begun _ _ 0 0) (sym c.requires.starts_value) begun_no
 
 pub place_below-past-requires : goal.place_below-past-requires
 place_below-past-requires c =
-    let asked = c.requires.n_le_row_cap in
-    (asked.0, (asked.1.0, begun_asks c.loop-taxon.invariant c.loop-taxon-test.true))
+    record {
+      n_le_row_cap = c.requires.n_le_row_cap;
+      rising = c.requires.rising;
+      past = begun_asks c.loop-taxon.invariant c.loop-taxon-test.true;
+    }
 
 pub loop-taxon-preserved : goal.loop-taxon-preserved
 loop-taxon-preserved c =
@@ -20,7 +23,7 @@ loop-taxon-preserved c =
 
 pub returns : goal.returns
 returns c =
-    starts_of_begun c.loop-taxon.invariant c.loop-taxon-test.false c.requires.n_le_row_cap.1.1
+    starts_of_begun c.loop-taxon.invariant c.loop-taxon-test.false c.requires.words_in
 
 pub overflow_shl-taxon : goal.overflow_shl-taxon
 overflow_shl-taxon c = omega arith
