@@ -11,11 +11,11 @@ use mathlib.Core.Path.{◌≡◌, refl, sym, ap, ap₂, ◌∙◌, subst}
 use mathlib.Core.Logic.{◌≢◌, ◌⊎◌, inl, inr}
 use mathlib.Core.Bool.{not}
 use mathlib.Core.List.Memᴰ
-use mathlib.Core.List.{List, ◌∷◌, ◌++◌, map, map-id}
+use mathlib.Core.List.{List, [], ◌∷◌, ◌++◌, map, map-id}
 use mathlib.Core.List.Memᴰ.{head as here}
 use mathlib.Core.List.Memᴰ.{tail as there}
 use mathlib.Core.List.{Memᴰ as Mem}
-use Prim.Native.Nat.{ℕ, ◌+◌, ◌^◌, ◌≤◌, ◌<◌}
+use Prim.Native.Nat.{ℕ, ◌^◌, ◌≤◌, ◌<◌}
 use native.Mathlib.Decide.{dec_le}
 use native.Mathlib.Omega.{arith}
 use lib.Dec.{T, eqb}
@@ -136,6 +136,7 @@ module _ (s : List ℕ) (z : Sized s) where
       (mem-gathered (scores_of s ++ all_lines (line_count s)) (Memᴰ.append_right (scores_of s) (here {x = all_of (line_count s)} refl))))
     where
       some : (l : List Row) {r : Row} → Mem r l → 1 ≤ length l
+      some [] {r = r} m = elim m [ ]
       some (r ∷ l) m = omega arith
 
   -- ---- the tally of the sheet

@@ -25,7 +25,6 @@ use Rattle.answers.specs.declared.refusal.Refusal.{Refusal}
 use Rattle.answers.specs.declared.refusal.Refusal.TheVariants.{NoBytes, WrongLength, TooLong, BadRecord, Repeated}
 use Rattle.answers.specs.Outcome.{Outcome, outcome_of, ended}
 use Rattle.answers.specs.Reasons.{Reason, when, first_reason}
-use Rattle.cluster.specs.Record.{record_bytes}
 use Rattle.answers.proofs.Laws.Reasons.{reason_told, reason_passed}
 use Rattle.lists.specs.declared.order.Order.{Order}
 use Rattle.lists.specs.declared.records.Records.{Records}
