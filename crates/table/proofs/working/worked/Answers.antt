@@ -38,7 +38,9 @@ weight-fits s = search rules
 
 own_is : (c : goal.After-own-2)
     → c.own-2.result ≡ own_tally 1 c.args.weight c.args.i
-own_is c = c.own-2.ensures ∙ ap (λ (z : ℤ). own_tally 1 z c.args.i) (to_z-of_z (weight-fits c.before.before.before.before.before.before.before.before.before.before))
+own_is c =
+    let fits : SFits w32 c.args.weight = search rules in
+    c.own-2.ensures ∙ ap (λ (z : ℤ). own_tally 1 z c.args.i) (to_z-of_z fits)
 
 -- ---- needs
 
@@ -65,7 +67,8 @@ overflow_sub-degree c = omega (arith, (asked ((goal.at.overflow_sub-degree c).El
 
 pub search-found-requires : goal.search-found-requires
 search-found-requires c =
-    (searchable c.requires, (omega (arith, (asked ((goal.at.search-found-requires c).Else-is_single)).0), omega (arith, (asked ((goal.at.search-found-requires c).Else-is_single)).1)))
+    let bounds = asked ((goal.at.search-found-requires c).Else-is_single) in
+    record { searchable = searchable c.requires; le_left = (omega (arith, bounds.0), omega (arith, bounds.1)) }
 
 pub returns : goal.returns
 returns c =
@@ -75,7 +78,7 @@ returns c =
     (own_is ((goal.at.returns c).After-own-2)) c.search-found.ensures
 
 pub bounds-states-i : goal.bounds-states-i
-bounds-states-i = room
+bounds-states-i c = room ((goal.at.bounds-states-i c).Start)
 
 pub offset_bounds-clusters-i : goal.offset_bounds-clusters-i
 offset_bounds-clusters-i c = omega (arith, room ((goal.at.offset_bounds-clusters-i c).Start))
