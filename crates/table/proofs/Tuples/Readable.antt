@@ -17,7 +17,6 @@ use native.Mathlib.Omega.{arith}
 use lib.Dec.{T}
 use lib.ListN.{get_or}
 use Rattle.laws.specs.State.{scored}
-use Rattle.laws.specs.Limits.{word_values}
 use Rattle.laws.specs.Row.{is_scored}
 use Rattle.laws.proofs.Descends.{Descends}
 use Rattle.laws.proofs.Down.{mem_down, down_mem}

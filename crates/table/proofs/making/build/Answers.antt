@@ -1,7 +1,7 @@
 -- `table::making::build` meets its contract: a degree bound that isn't taken, a list that is refused, and else its rows worked out.
 -- Assumes nothing.
 use mathlib.Core.Path.{◌≡◌, ap, ◌∙◌}
-use mathlib.Core.Bool.{Bool, false, ◌&&◌, and_false}
+use mathlib.Core.Bool.{Bool, false, ◌&&◌, and-false}
 use native.Mathlib.Omega.{arith}
 use mir.Facts.{Fits-lt-pow}
 use borrow.Author.Tests.{lt-leb}
@@ -33,7 +33,7 @@ pub returns-then-degree-gt-DEGREE_HIGH : goal.returns-then-degree-gt-DEGREE_HIGH
 returns-then-degree-gt-DEGREE_HIGH c =
     let high : is_degree c.args.degree ≡ false =
     ap (λ (b : Bool). leb degree_low c.args.degree && b) (lt-leb c.args.degree degree_high (omega (arith, c.if-degree-gt-DEGREE_HIGH.true)))
-    ∙ and_false (leb degree_low c.args.degree) in
+    ∙ and-false (leb degree_low c.args.degree) in
     c.refused-then-degree-gt-DEGREE_HIGH.ensures ∙ build_out narrow c.args.list.now c.args.degree high
 
 -- ---- the list is read, and its answer is known
@@ -42,17 +42,17 @@ pub returns-in-Refused : goal.returns-in-Refused
 returns-in-Refused c =
     c.refused-in-Refused.ensures
     ∙ build-refused narrow c.args.list.now c.args.degree (degree ((goal.at.returns-in-Refused c).Else-degree-gt-DEGREE_HIGH)) c.read_list-listing.ensures
-    c.answer-1.given.1
+    c.in-Refused.is
 
 -- the list is taken, from where its rows are lent
 
 pub made-requires : goal.made-requires
 made-requires c =
     build_workable narrow c.args.list.now c.args.degree (degree ((goal.at.made-requires c).Else-degree-gt-DEGREE_HIGH)) c.read_list-listing.ensures narrow_facts
-    (bytes ((goal.at.made-requires c).After-read_list-listing)) c.enum_told-1.given.1
+    (bytes ((goal.at.made-requires c).After-read_list-listing)) c.in-Done.is
 
 pub returns : goal.returns
 returns c =
     c.made.ensures
     ∙ build_done narrow c.args.list.now c.args.degree (degree ((goal.at.returns c).Else-degree-gt-DEGREE_HIGH)) c.read_list-listing.ensures narrow_facts
-    (bytes ((goal.at.returns c).After-read_list-listing)) c.enum_told-1.given.1
+    (bytes ((goal.at.returns c).After-read_list-listing)) c.in-Done.is

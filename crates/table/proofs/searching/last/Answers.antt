@@ -4,7 +4,6 @@ use Prim.Native.Nat.{◌<◌}
 use native.Mathlib.Omega.{arith}
 use Rattle.laws.specs.Limits.{row_cap}
 use Rattle.laws.proofs.Tests.{passed, failed}
-use Rattle.table.specs.Columns.{Columns, columns}
 use Rattle.table.proofs.Tuples.Readable.{missing_is, other_is, unscored_is, found_is}
 use Rattle.table.proofs.searching.last.Goals as goal
 use Rattle.table.proofs.searching.last.Goals.{Else-end-at}

@@ -1,6 +1,5 @@
 -- `table::searching::place_below` meets its contract. The invariant: the first `low` clusters are below the value, those from `high` on
 -- aren't. The measure is how many are undecided. Assumes nothing.
-use Prim.Native.Nat.{◌-◌}
 use native.Mathlib.Omega.{arith}
 use Rattle.table.proofs.Tuples.Searched.{between_past, between_above, between_below, below_of_between}
 use Rattle.table.proofs.searching.place_below.Goals as goal

@@ -1,7 +1,6 @@
 -- `table::searching::put_starts` meets its contract. The invariant: the starts of the taxa passed are told, and the last is all rows.
 -- The measure is the taxa left. Assumes nothing.
 use mathlib.Core.Path.{sym, subst}
-use Prim.Native.Nat.{◌-◌}
 use native.Mathlib.Omega.{arith}
 use Rattle.table.proofs.Tuples.Searched.{Begun, begun_none, begun_asks, begun_more, starts_of_begun}
 use Rattle.table.proofs.searching.put_starts.Goals as goal

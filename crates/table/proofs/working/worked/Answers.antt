@@ -93,4 +93,6 @@ pub own-requires-2 : goal.own-requires-2
 own-requires-2 c = room ((goal.at.own-requires-2 c).Start)
 
 pub under-requires : goal.under-requires
-under-requires c = under_fits c.requires (own_is ((goal.at.under-requires c).After-own-2)) c.search-found.ensures
+under-requires c =
+    let fits = under_fits c.requires (own_is ((goal.at.under-requires c).After-own-2)) c.search-found.ensures in
+    record { sfits = fits.0; low_bound = fits.1.0; high_bound = fits.1.1 }
