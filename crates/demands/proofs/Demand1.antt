@@ -40,7 +40,7 @@ use Rattle.shapes.specs.Text.{text_bytes}
 use Rattle.shapes.specs.Drawn.{shape_of}
 use Rattle.shapes.specs.Nests.{TreeOn}
 use Rattle.members.specs.Draw.{members_of, no_members, drawn_members, draw_reasons, drawn_tree}
-use Rattle.members.proofs.Drawn.{drawable}
+use Rattle.members.proofs.Drawable.{drawable}
 use Rattle.table.specs.Build.{build_reasons, build_table}
 use Rattle.table.specs.Rescore.{rescore_reasons, new_table, rescore_table}
 use Rattle.drawing.specs.Draw.{draw_tree, leaf_text, no_text, text_at, drawn_text, draw_text}

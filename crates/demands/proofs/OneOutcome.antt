@@ -13,7 +13,7 @@ use Rattle.answers.specs.Outcome.{Outcome}
 use Rattle.answers.proofs.Laws.Outcome.{outcome_only}
 use Rattle.cluster.proofs.Theorems.{read_only}
 use Rattle.lists.proofs.Theorems.{list_only, check_only}
-use Rattle.members.proofs.Drawn.{drawn-only}
+use Rattle.members.proofs.Drawable.{drawn-only}
 use Rattle.table.proofs.Theorems.{build-only}
 use Rattle.table.proofs.Changing.RescoredTables.{rescore-only}
 use Rattle.drawing.proofs.Laws.Draw.{drawn_text-only}

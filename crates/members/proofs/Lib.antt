@@ -1,4 +1,4 @@
 -- what the functions are proved by, for the crates above too
 pub mod Laws
 -- what is known where something is drawn
-pub mod Drawn
+pub mod Drawable

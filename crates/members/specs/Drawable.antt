@@ -1,4 +1,4 @@
--- What is known where something is drawn of a table, for those who draw it (RULES 8 and 9). Shown in `proofs/Drawn.antt`.
+-- What is known where something is drawn of a table, for those who draw it (RULES 8 and 9). Shown in `proofs/Drawable.antt`.
 --     Drawable W t      the table is fit, its leaf set has a row, and the members of that are a tree of its best weight
 --     Success W t r     a success of `drawn_tree`: no reason applies, and r has the row and its members
 -- Assumes nothing.

@@ -30,7 +30,7 @@ use Rattle.kept.specs.Rows.{leaf_set}
 use Rattle.kept.proofs.Laws.Fit.{is_fit→}
 use Rattle.members.specs.Draw.{leaf_row, members_of, draw_reasons}
 use Rattle.members.specs.Drawable.{Drawable}
-use Rattle.members.proofs.Drawn.{drawable}
+use Rattle.members.proofs.Drawable.{drawable}
 use Rattle.drawing.specs.declared.drawing.DrawnText.{DrawnText}
 use Rattle.drawing.specs.Draw.{draw_tree, leaf_text, TextAt, no_text, text_at, drawn_text, drawn_text_of, draw_text, TextDrawn}
 use Rattle.drawing.proofs.Tested.{tested_tree}

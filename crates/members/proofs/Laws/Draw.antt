@@ -8,7 +8,7 @@
 -- Assumes nothing.
 use mathlib.Core.Path.{◌≡◌, sym, ap, ap₂, ◌∙◌}
 use mathlib.Core.Logic.{◌≢◌}
-use mathlib.Core.Bool.{Bool, true, false, not, ◌&&◌, and_false}
+use mathlib.Core.Bool.{Bool, true, false, not, ◌&&◌, and-false}
 use mathlib.Core.Option.{Option, none, some}
 use Prim.Native.Nat.{ℕ, ◌≤◌, ◌<◌}
 use native.Mathlib.Nat.{min-eq_left}
@@ -52,7 +52,7 @@ module _ (t : Table) (i : ℕ) (e : i ≡ leaf_row t) where
   has_tree_no_row h = has_tree_at ∙ ap (λ (b : Bool). b && not (eqb (result_at t i).count 0)) (le-ltb i t.rows h)
 
   pub has_tree_no_count : (result_at t i).count ≡ 0 → has_tree t ≡ false
-  has_tree_no_count h = has_tree_at ∙ ap (λ (b : Bool). ltb i t.rows && not b) (eq-eqb _ _ h) ∙ and_false (ltb i t.rows)
+  has_tree_no_count h = has_tree_at ∙ ap (λ (b : Bool). ltb i t.rows && not b) (eq-eqb _ _ h) ∙ and-false (ltb i t.rows)
 
   pub has_tree-count : i < t.rows → (result_at t i).count ≢ 0 → has_tree t ≡ true
   has_tree-count h k = has_tree_at ∙ ap₂ (λ (a b : Bool). a && not b) (lt-ltb i t.rows h) (ne_eqb _ _ k)

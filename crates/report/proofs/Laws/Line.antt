@@ -46,7 +46,7 @@ use Rattle.table.specs.Build.{build_reasons, build_table}
 use Rattle.table.proofs.Laws.Build.{build_of}
 use Rattle.members.specs.Draw.{leaf_row, members_of, draw_reasons}
 use Rattle.members.specs.Drawable.{Drawable}
-use Rattle.members.proofs.Drawn.{drawable}
+use Rattle.members.proofs.Drawable.{drawable}
 use Rattle.drawing.specs.Draw.{leaf_text}
 use Rattle.drawing.proofs.Laws.Draw.{tree_on}
 use Rattle.report.specs.Words.{refused_line, tree_line}
