@@ -6,7 +6,7 @@ use mathlib.Core.Logic.{◌≢◌}
 use mathlib.Core.List.{List, Memᴰ as Mem}
 use Prim.Native.Nat.{ℕ, ◌^◌, ◌≤◌, ◌<◌}
 use lib.Dec.{T}
-use Rattle.laws.specs.Lists.{keep, elem, Once}
+use Rattle.laws.specs.Lists.{keep, Once}
 use Rattle.laws.proofs.Keep.{keep_all, elem→, →elem}
 use Rattle.trees.specs.Tree.{is_tree}
 use Rattle.trees.proofs.Sets.TreeFacts.{Given}
