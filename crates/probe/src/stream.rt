@@ -108,7 +108,7 @@ pub(crate) fn read_room(rt: &HostRuntime) -> Room
     }
 }
 
-// Where the output can't be written, nothing tells so, as it always was: the reader finds an answer missing.
+// Where the output can't be written nothing is said: whoever reads it finds an answer missing.
 pub(crate) fn write(rt: &HostRuntime, bytes: &[u8]) {
     let _ = rt.write_all(bytes);
 }
