@@ -8,41 +8,44 @@ use answers::Answer;
 use cluster::RECORD_BYTES;
 use gel::import_sheet;
 use input::read_input;
-use libc::{STDERR_FILENO, STDOUT_FILENO};
 use report::sheet_line;
 
-fn tell(text: &[u8]) {
-    io::write_all(STDERR_FILENO, text);
+// Says a text; where that can't be written, nothing is left to be done.
+fn tell(to: &impl Print, text: &[u8]) {
+    let _ = to.write_all(text);
 }
 
 // Says what came of a sheet.
-fn tell_import(answer: Answer, unread: usize) {
+fn tell_import(to: &impl Print, answer: Answer, unread: usize) {
     let text = sheet_line(answer, unread);
     let bytes = text.bytes;
-    tell(&bytes[..text.size]);
+    tell(to, &bytes[..text.size]);
 }
 
-// Says what came of a sheet, and writes the list that is made of it; false where that can't be written.
-fn write_list(sheet: &[u8]) -> bool {
+// Says what came of a sheet to `said`, and writes the list that is made of it to `made`; false where that can't be written.
+fn write_list(said: &impl Print, made: &impl Print, sheet: &[u8]) -> bool {
     let mut room = [0u8; 1536];
     let import = import_sheet(sheet, &mut room);
     let answer = import.answer;
-    tell_import(answer, import.unread);
+    tell_import(said, answer, import.unread);
     if let Answer::Done(records) = answer {
-        return io::write_all(STDOUT_FILENO, &room[..records * RECORD_BYTES]);
+        return made.write_all(&room[..records * RECORD_BYTES]).is_ok();
     }
     true
 }
 
-fn main() {
+fn main(rt: HostRuntime) {
     // one byte more than the longest sheet, so that a longer one is seen
     let mut buffer = [0u8; 4129];
-    let sheet = read_input(&mut buffer);
+    let sheet = read_input(&mut rt.stdin(), &mut buffer);
     let n = sheet.count;
     if !sheet.is_read {
-        tell(b"gelsheet: standard input can't be read\n");
+        tell(&rt.stderr(), b"gelsheet: standard input can't be read\n");
     }
-    if !write_list(&buffer[..n]) {
-        tell(b"gelsheet: standard output can't be written\n");
+    if !write_list(&rt.stderr(), &rt.stdout(), &buffer[..n]) {
+        tell(
+            &rt.stderr(),
+            b"gelsheet: standard output can't be written\n",
+        );
     }
 }

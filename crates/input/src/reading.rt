@@ -1,10 +1,10 @@
-// Reading standard input. Cites `specs/Counts.antt` of the kit's `io`.
+// Reading an input. Cites `specs/Counts.antt`.
 //     Input          how many bytes came, and whether the input could be read
 //     read_some      one read
 //     read_input     reads joined
-ghost use Rattle.io.specs.Counts.{IsPrefixLen};
+ghost use Rattle.input.specs.Counts.{IsPrefixLen};
 
-use libc::STDIN_FILENO;
+use std::io::Read;
 
 // How many bytes came, and whether the input could be read.
 #[derive(Clone, Copy)]
@@ -14,23 +14,28 @@ pub struct Input {
 }
 
 // One read, put at the start of `room`.
-fn read_some(room: &mut [u8]) -> Input
+fn read_some<R: Read>(reader: &mut R, room: &mut [u8]) -> Input
     ensures { IsPrefixLen result.count room.new }
 {
-    let got = libc::read(STDIN_FILENO, room);
-    Input {
-        count: io::count(got, room),
-        is_read: 0 <= got,
+    match reader.read(room) {
+        Ok(count) => Input {
+            count,
+            is_read: true,
+        },
+        Err(_) => Input {
+            count: 0,
+            is_read: false,
+        },
     }
 }
 
 // The input, put at the start of `room`: reads are joined until the room is full, the input ends or a read fails.
-pub fn read_input(room: &mut [u8]) -> Input
+pub fn read_input<R: Read>(reader: &mut R, room: &mut [u8]) -> Input
     ensures { IsPrefixLen result.count room.new }
 {
     let mut end = 0;
     while end < room.len() {
-        let some = read_some(&mut room[end..]);
+        let some = read_some(reader, &mut room[end..]);
         let count = some.count;
         if count == 0 {
             return Input {

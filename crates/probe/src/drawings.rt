@@ -15,10 +15,10 @@ use table::Table;
 // How many numbers a room can have.
 const MOST_NUMBERS: usize = 256;
 
-fn write_words(words: &[u32]) {
+fn write_words(rt: &HostRuntime, words: &[u32]) {
     let mut i = 0;
     while i < words.len() {
-        write_number(words[i] as u64, WORD_BYTES);
+        write_number(rt, words[i] as u64, WORD_BYTES);
         i += 1;
     }
 }
@@ -37,72 +37,72 @@ fn words_of(bytes: &[u8]) -> [u32; 256]
     words
 }
 
-fn tell_tree(t: Table, room: &mut [u32]) {
+fn tell_tree(rt: &HostRuntime, t: Table, room: &mut [u32]) {
     let answer = drawing::tree(t, room);
-    write_sent(answer);
-    write_words(room);
+    write_sent(rt, answer);
+    write_words(rt, room);
 }
 
-pub(crate) fn answer_tree(t: Table) -> bool {
+pub(crate) fn answer_tree(rt: &HostRuntime, t: Table) -> bool {
     let mut bytes = [0u8; 1024];
-    let part = read_part(&mut bytes, WORD_BYTES);
+    let part = read_part(rt, &mut bytes, WORD_BYTES);
     if !part.is_whole {
         return false;
     }
     let n = part.count;
     let mut room = words_of(&bytes);
-    tell_tree(t, &mut room[..n]);
+    tell_tree(rt, t, &mut room[..n]);
     true
 }
 
-fn tell_text(t: Table, room: &mut [u8]) {
+fn tell_text(rt: &HostRuntime, t: Table, room: &mut [u8]) {
     let answer = drawing::text(t, room);
-    write_room(answer, room);
+    write_room(rt, answer, room);
 }
 
-pub(crate) fn answer_text(t: Table) -> bool {
-    let room = read_room();
+pub(crate) fn answer_text(rt: &HostRuntime, t: Table) -> bool {
+    let room = read_room(rt);
     if !room.is_whole {
         return false;
     }
     let end = room.end;
     let mut bytes = room.bytes;
-    tell_text(t, &mut bytes[..end]);
+    tell_text(rt, t, &mut bytes[..end]);
     true
 }
 
-fn tell_line(list: &[u8], degree: u32, room: &mut [u8]) {
+fn tell_line(rt: &HostRuntime, list: &[u8], degree: u32, room: &mut [u8]) {
     let answer = report::line(list, degree, room);
-    write_room(answer, room);
+    write_room(rt, answer, room);
 }
 
-pub(crate) fn answer_line(list: &[u8], degree: u32) -> bool {
-    let room = read_room();
+pub(crate) fn answer_line(rt: &HostRuntime, list: &[u8], degree: u32) -> bool {
+    let room = read_room(rt);
     if !room.is_whole {
         return false;
     }
     let end = room.end;
     let mut bytes = room.bytes;
-    tell_line(list, degree, &mut bytes[..end]);
+    tell_line(rt, list, degree, &mut bytes[..end]);
     true
 }
 
 // Writes the answers of both drawings of a table, into rooms that are filled with 0xAA.
-fn tell_drawings(t: Table) {
+fn tell_drawings(rt: &HostRuntime, t: Table) {
     let mut numbers = [2863311530; 128];
     let mut bytes = [170; 256];
-    tell_tree(t, &mut numbers);
-    tell_text(t, &mut bytes);
+    tell_tree(rt, t, &mut numbers);
+    tell_text(rt, t, &mut bytes);
 }
 
-pub(crate) fn answer_whole(list: &[u8], degree: u32) -> bool {
+pub(crate) fn answer_whole(rt: &HostRuntime, list: &[u8], degree: u32) -> bool {
     let mut scores = scores_room();
-    let part = read_part(&mut scores, SCORE_BYTES);
+    let part = read_part(rt, &mut scores, SCORE_BYTES);
     if !part.is_whole {
         return false;
     }
-    let t = tell_rescores(tell_build(list, degree), &scores, part.count);
-    write_table(t);
-    tell_drawings(t);
+    let t = tell_rescores(rt, tell_build(rt, list, degree), &scores, part.count);
+    write_table(rt, t);
+    tell_drawings(rt, t);
     true
 }

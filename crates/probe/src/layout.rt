@@ -109,9 +109,9 @@ fn table_of(bytes: &[u8]) -> Table
     }
 }
 
-pub(crate) fn read_table() -> Given {
+pub(crate) fn read_table(rt: &HostRuntime) -> Given {
     let mut bytes = [0u8; 6924];
-    let is_whole = fill(&mut bytes);
+    let is_whole = fill(rt, &mut bytes);
     Given {
         is_whole,
         table: table_of(&bytes),
@@ -119,17 +119,17 @@ pub(crate) fn read_table() -> Given {
 }
 
 // A column, written: write_longs, write_weights, write_bests and write_bytes.
-fn write_longs(column: [u64; 128]) {
+fn write_longs(rt: &HostRuntime, column: [u64; 128]) {
     let mut bytes = [0u8; 1024];
     let mut i = 0;
     while i < ROWS {
         put_number(&mut bytes, i * LONG_BYTES, LONG_BYTES, column[i]);
         i += 1;
     }
-    write(&bytes);
+    write(rt, &bytes);
 }
 
-fn write_weights(column: [i32; 128]) {
+fn write_weights(rt: &HostRuntime, column: [i32; 128]) {
     let mut bytes = [0u8; 512];
     let mut i = 0;
     while i < ROWS {
@@ -141,10 +141,10 @@ fn write_weights(column: [i32; 128]) {
         );
         i += 1;
     }
-    write(&bytes);
+    write(rt, &bytes);
 }
 
-fn write_bests(column: [i64; 128]) {
+fn write_bests(rt: &HostRuntime, column: [i64; 128]) {
     let mut bytes = [0u8; 1024];
     let mut i = 0;
     while i < ROWS {
@@ -156,15 +156,15 @@ fn write_bests(column: [i64; 128]) {
         );
         i += 1;
     }
-    write(&bytes);
+    write(rt, &bytes);
 }
 
-fn write_bytes(column: [u8; 128]) {
-    write(&column);
+fn write_bytes(rt: &HostRuntime, column: [u8; 128]) {
+    write(rt, &column);
 }
 
 // The columns are named before they are written, since a field that is an array can't be passed on straight.
-pub(crate) fn write_table(t: Table) {
+pub(crate) fn write_table(rt: &HostRuntime, t: Table) {
     let clusters = t.clusters;
     let weights = t.weights;
     let states = t.states;
@@ -174,15 +174,15 @@ pub(crate) fn write_table(t: Table) {
     let bests = t.bests;
     let lows = t.members_low;
     let highs = t.members_high;
-    write_number(t.degree as u64, WORD_BYTES);
-    write_number(t.rows as u64, LONG_BYTES);
-    write_longs(clusters);
-    write_weights(weights);
-    write_bytes(states);
-    write_longs(lengths);
-    write_longs(counts);
-    write_bytes(marks);
-    write_bests(bests);
-    write_longs(lows);
-    write_longs(highs);
+    write_number(rt, t.degree as u64, WORD_BYTES);
+    write_number(rt, t.rows as u64, LONG_BYTES);
+    write_longs(rt, clusters);
+    write_weights(rt, weights);
+    write_bytes(rt, states);
+    write_longs(rt, lengths);
+    write_longs(rt, counts);
+    write_bytes(rt, marks);
+    write_bests(rt, bests);
+    write_longs(rt, lows);
+    write_longs(rt, highs);
 }

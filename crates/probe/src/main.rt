@@ -23,72 +23,72 @@ use stream::{fill, read_list, write};
 use tables::{answer_build, answer_fit, answer_rescore};
 
 // Answers a case of operations 4 to 7, which starts with a table.
-fn answer_table(operation: u8) -> bool {
-    let given = read_table();
+fn answer_table(rt: &HostRuntime, operation: u8) -> bool {
+    let given = read_table(rt);
     if !given.is_whole {
         return false;
     }
     match operation {
-        4 => answer_rescore(given.table),
-        5 => answer_fit(given.table),
-        6 => answer_tree(given.table),
-        _ => answer_text(given.table),
+        4 => answer_rescore(rt, given.table),
+        5 => answer_fit(rt, given.table),
+        6 => answer_tree(rt, given.table),
+        _ => answer_text(rt, given.table),
     }
 }
 
 // Answers what follows the list.
-fn answer_listed(operation: u8, list: &[u8], degree: u32) -> bool {
+fn answer_listed(rt: &HostRuntime, operation: u8, list: &[u8], degree: u32) -> bool {
     match operation {
-        3 => answer_build(list, degree),
-        8 => answer_line(list, degree),
-        _ => answer_whole(list, degree),
+        3 => answer_build(rt, list, degree),
+        8 => answer_line(rt, list, degree),
+        _ => answer_whole(rt, list, degree),
     }
 }
 
 // Answers a case of operations 3, 8 and 9, which starts with a degree bound and a list.
-fn answer_list(operation: u8) -> bool {
-    let mut list = io::buffer();
-    let listed = read_list(&mut list);
+fn answer_list(rt: &HostRuntime, operation: u8) -> bool {
+    let mut list = [0u8; 4096];
+    let listed = read_list(rt, &mut list);
     if !listed.is_whole {
         return false;
     }
     let end = listed.end;
-    answer_listed(operation, &list[..end], listed.degree)
+    answer_listed(rt, operation, &list[..end], listed.degree)
 }
 
 // Answers one case of the operation; false where the case isn't whole or the operation is unknown.
-fn answer_case(operation: u8) -> bool {
+fn answer_case(rt: &HostRuntime, operation: u8) -> bool {
     match operation {
-        1 => answer_read(),
-        2 => answer_write(),
-        3 | 8 | 9 => answer_list(operation),
-        4..=7 => answer_table(operation),
-        10 => answer_sheet(),
+        1 => answer_read(rt),
+        2 => answer_write(rt),
+        3 | 8 | 9 => answer_list(rt, operation),
+        4..=7 => answer_table(rt, operation),
+        10 => answer_sheet(rt),
         _ => false,
     }
 }
 
-fn tell_fault() {
-    write(b"malformed stream\n");
+fn tell_fault(rt: &HostRuntime) {
+    write(rt, b"malformed stream\n");
 }
 
 // Answers the next case; false where the input ends or has a fault, which is told.
-fn answer_next() -> bool {
+fn answer_next(rt: &HostRuntime) -> bool {
     let mut operation = [0u8; 1];
-    if !fill(&mut operation) {
+    if !fill(rt, &mut operation) {
         return false;
     }
-    if answer_case(operation[0]) {
+    if answer_case(rt, operation[0]) {
         return true;
     }
-    tell_fault();
+    tell_fault(rt);
     false
 }
 
 // A proved loop has to end, and nothing says that the input does. So the turns are counted down, from a number that no run uses up.
-fn main() {
+fn main(rt: HostRuntime) {
     let mut turns = u64::MAX;
-    while turns > 0 && answer_next() {
+    while turns > 0 && answer_next(&rt) {
         turns -= 1;
     }
 }

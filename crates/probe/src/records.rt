@@ -13,27 +13,27 @@ const WEIGHT_AT: usize = 4;
 
 const STATE_AT: usize = 8;
 
-fn write_fields(r: Record) {
-    write_number(r.cluster as u64, WORD_BYTES);
-    write_number(wide_bits_of(r.weight), WORD_BYTES);
-    write_number(wide(r.state), 1);
+fn write_fields(rt: &HostRuntime, r: Record) {
+    write_number(rt, r.cluster as u64, WORD_BYTES);
+    write_number(rt, wide_bits_of(r.weight), WORD_BYTES);
+    write_number(rt, wide(r.state), 1);
 }
 
-fn tell_read(bytes: &[u8]) {
+fn tell_read(rt: &HostRuntime, bytes: &[u8]) {
     let reading = cluster::read_record(bytes);
     let answer = reading.answer;
-    write_sent(answer);
-    write_fields(reading.record);
+    write_sent(rt, answer);
+    write_fields(rt, reading.record);
 }
 
-pub(crate) fn answer_read() -> bool {
-    let mut list = io::buffer();
-    let part = read_part(&mut list, 1);
+pub(crate) fn answer_read(rt: &HostRuntime) -> bool {
+    let mut list = [0u8; 4096];
+    let part = read_part(rt, &mut list, 1);
     if !part.is_whole {
         return false;
     }
     let end = part.end;
-    tell_read(&list[..end]);
+    tell_read(rt, &list[..end]);
     true
 }
 
@@ -47,27 +47,27 @@ fn fields_of(fields: &[u8]) -> Record
     }
 }
 
-fn tell_write(r: Record, room: &mut [u8]) {
+fn tell_write(rt: &HostRuntime, r: Record, room: &mut [u8]) {
     let answer = cluster::write_record(r, room);
-    write_room(answer, room);
+    write_room(rt, answer, room);
 }
 
 // Answers what follows the fields.
-fn answer_fields(r: Record) -> bool {
-    let room = read_room();
+fn answer_fields(rt: &HostRuntime, r: Record) -> bool {
+    let room = read_room(rt);
     if !room.is_whole {
         return false;
     }
     let end = room.end;
     let mut bytes = room.bytes;
-    tell_write(r, &mut bytes[..end]);
+    tell_write(rt, r, &mut bytes[..end]);
     true
 }
 
-pub(crate) fn answer_write() -> bool {
+pub(crate) fn answer_write(rt: &HostRuntime) -> bool {
     let mut fields = [0u8; 9];
-    if !fill(&mut fields) {
+    if !fill(rt, &mut fields) {
         return false;
     }
-    answer_fields(fields_of(&fields))
+    answer_fields(rt, fields_of(&fields))
 }

@@ -4,32 +4,32 @@
 use crate::numbers::LONG_BYTES;
 use crate::stream::{read_part, write, write_number, write_sent};
 
-fn tell_import(sheet: &[u8], room: &mut [u8]) {
+fn tell_import(rt: &HostRuntime, sheet: &[u8], room: &mut [u8]) {
     let import = gel::import_sheet(sheet, room);
     let answer = import.answer;
-    write_sent(answer);
-    write_number(import.unread as u64, LONG_BYTES);
-    write(room);
+    write_sent(rt, answer);
+    write_number(rt, import.unread as u64, LONG_BYTES);
+    write(rt, room);
 }
 
 // Answers what follows the sheet: its room may be longer than those of the other operations.
-fn answer_room(sheet: &[u8]) -> bool {
+fn answer_room(rt: &HostRuntime, sheet: &[u8]) -> bool {
     let mut room = [0u8; 2048];
-    let part = read_part(&mut room, 1);
+    let part = read_part(rt, &mut room, 1);
     if !part.is_whole {
         return false;
     }
     let end = part.end;
-    tell_import(sheet, &mut room[..end]);
+    tell_import(rt, sheet, &mut room[..end]);
     true
 }
 
-pub(crate) fn answer_sheet() -> bool {
+pub(crate) fn answer_sheet(rt: &HostRuntime) -> bool {
     let mut sheet = [0u8; 8192];
-    let part = read_part(&mut sheet, 1);
+    let part = read_part(rt, &mut sheet, 1);
     if !part.is_whole {
         return false;
     }
     let end = part.end;
-    answer_room(&sheet[..end])
+    answer_room(rt, &sheet[..end])
 }

@@ -11,11 +11,11 @@
 //     write_sent      how an operation ended, written as SENT
 //     write_room      SENT and the bytes of a room, written
 ghost use Rattle.std.specs.Prelude.{◌≡◌, ◌*◌, ◌≤◌, ◌<◌, length};
-ghost use Rattle.io.specs.Counts.{IsPrefixLen};
+ghost use Rattle.input.specs.Counts.{IsPrefixLen};
 
 use crate::numbers::{LONG_BYTES, number_at, put_number, word_at};
 use answers::{Answer, number_of, position_of};
-use libc::{STDIN_FILENO, STDOUT_FILENO};
+use input::read_input;
 
 // How many pieces came, and where their bytes end. Where the stream ended before that, or there were too many for their room, it isn't
 // whole, and none count.
@@ -43,21 +43,21 @@ pub(crate) struct Room {
 }
 
 // Fills `room` from the standard input; false where the input ends before.
-pub(crate) fn fill(room: &mut [u8]) -> bool {
-    io::read_full(STDIN_FILENO, room) == room.len()
+pub(crate) fn fill(rt: &HostRuntime, room: &mut [u8]) -> bool {
+    read_input(&mut rt.stdin(), room).count == room.len()
 }
 
 // A count of two bytes; where the stream ends before, one that no room has.
-fn read_count() -> usize {
+fn read_count(rt: &HostRuntime) -> usize {
     let mut two = [0u8; 2];
-    if fill(&mut two) {
+    if fill(rt, &mut two) {
         return number_at(&two, 0, 2) as usize;
     }
     usize::MAX
 }
 
 // A count, then as many pieces of `size` bytes each, put at the start of `room`.
-pub(crate) fn read_part(room: &mut [u8], size: usize) -> Part
+pub(crate) fn read_part(rt: &HostRuntime, room: &mut [u8], size: usize) -> Part
     requires { 0 < size }
     ensures { (result.end ≡ result.count * size) × IsPrefixLen result.end room.new }
 {
@@ -66,12 +66,12 @@ pub(crate) fn read_part(room: &mut [u8], size: usize) -> Part
         count: 0,
         end: 0,
     };
-    let count = read_count();
+    let count = read_count(rt);
     if room.len() / size < count {
         return none;
     }
     let end = count * size;
-    if fill(&mut room[..end]) {
+    if fill(rt, &mut room[..end]) {
         return Part {
             is_whole: true,
             count,
@@ -82,12 +82,12 @@ pub(crate) fn read_part(room: &mut [u8], size: usize) -> Part
 }
 
 // A degree bound of four bytes, then a count and as many bytes, put at the start of `list`.
-pub(crate) fn read_list(list: &mut [u8]) -> Listed
+pub(crate) fn read_list(rt: &HostRuntime, list: &mut [u8]) -> Listed
     ensures { IsPrefixLen result.end list.new }
 {
     let mut degree = [0u8; 4];
-    let is_degree = fill(&mut degree);
-    let part = read_part(list, 1);
+    let is_degree = fill(rt, &mut degree);
+    let part = read_part(rt, list, 1);
     Listed {
         is_whole: is_degree & part.is_whole,
         degree: word_at(&degree, 0),
@@ -96,11 +96,11 @@ pub(crate) fn read_list(list: &mut [u8]) -> Listed
 }
 
 // A count of two bytes, then as many bytes, at most 512.
-pub(crate) fn read_room() -> Room
+pub(crate) fn read_room(rt: &HostRuntime) -> Room
     ensures { IsPrefixLen result.end result.bytes }
 {
     let mut bytes = [0u8; 512];
-    let part = read_part(&mut bytes, 1);
+    let part = read_part(rt, &mut bytes, 1);
     Room {
         is_whole: part.is_whole,
         bytes,
@@ -108,37 +108,38 @@ pub(crate) fn read_room() -> Room
     }
 }
 
-pub(crate) fn write(bytes: &[u8]) {
-    io::write_all(STDOUT_FILENO, bytes);
+// Where the output can't be written nothing is said: whoever reads it finds an answer missing.
+pub(crate) fn write(rt: &HostRuntime, bytes: &[u8]) {
+    let _ = rt.write_all(bytes);
 }
 
 // Writes `n` as `size` bytes, low byte first; what doesn't go into them is dropped.
-pub(crate) fn write_number(n: u64, size: usize)
+pub(crate) fn write_number(rt: &HostRuntime, n: u64, size: usize)
     requires { size ≤ 8 }
 {
     let mut bytes = [0u8; 8];
     put_number(&mut bytes, 0, LONG_BYTES, n);
-    write(&bytes[..size]);
+    write(rt, &bytes[..size]);
 }
 
 // SENT by its numbers.
-fn write_numbers(number: u64, position: u64, told: u64) {
-    write_number(number, 1);
-    write_number(position, LONG_BYTES);
-    write_number(told, LONG_BYTES);
+fn write_numbers(rt: &HostRuntime, number: u64, position: u64, told: u64) {
+    write_number(rt, number, 1);
+    write_number(rt, position, LONG_BYTES);
+    write_number(rt, told, LONG_BYTES);
 }
 
-pub(crate) fn write_sent(answer: Answer) {
+pub(crate) fn write_sent(rt: &HostRuntime, answer: Answer) {
     match answer {
-        Answer::Done(told) => write_numbers(0, 0, told as u64),
+        Answer::Done(told) => write_numbers(rt, 0, 0, told as u64),
         Answer::Refused(refusal) => {
-            write_numbers(number_of(refusal), position_of(refusal) as u64, 0)
+            write_numbers(rt, number_of(refusal), position_of(refusal) as u64, 0)
         }
     }
 }
 
 // How an operation ended, and its room afterwards.
-pub(crate) fn write_room(answer: Answer, room: &[u8]) {
-    write_sent(answer);
-    write(room);
+pub(crate) fn write_room(rt: &HostRuntime, answer: Answer, room: &[u8]) {
+    write_sent(rt, answer);
+    write(rt, room);
 }

@@ -21,15 +21,15 @@ const WEIGHT_AT: usize = 8;
 const STATE_AT: usize = 12;
 
 // Writes the SENT of a build, and hands back the table, which is all zero where the build is refused.
-pub(crate) fn tell_build(list: &[u8], degree: u32) -> Table {
+pub(crate) fn tell_build(rt: &HostRuntime, list: &[u8], degree: u32) -> Table {
     let made = table::build(list, degree);
     let answer = made.answer;
-    write_sent(answer);
+    write_sent(rt, answer);
     made.table
 }
 
-pub(crate) fn answer_build(list: &[u8], degree: u32) -> bool {
-    write_table(tell_build(list, degree));
+pub(crate) fn answer_build(rt: &HostRuntime, list: &[u8], degree: u32) -> bool {
+    write_table(rt, tell_build(rt, list, degree));
     true
 }
 
@@ -60,37 +60,37 @@ fn score_at(scores: &[u8], at: usize) -> Score
 }
 
 // Writes the SENT of a rescoring, and hands back the table after it.
-fn tell_rescore(t: Table, score: Score) -> Table {
+fn tell_rescore(rt: &HostRuntime, t: Table, score: Score) -> Table {
     let changed = table::rescore(t, score.cluster, score.weight, score.state);
     let answer = changed.answer;
-    write_sent(answer);
+    write_sent(rt, answer);
     changed.table
 }
 
 // Writes the SENT of `count` rescorings, one after another, and hands back the table after the last.
-pub(crate) fn tell_rescores(given: Table, scores: &[u8], count: usize) -> Table
+pub(crate) fn tell_rescores(rt: &HostRuntime, given: Table, scores: &[u8], count: usize) -> Table
     requires { count * 13 ≤ length scores.now }
 {
     let mut t = given;
     let mut i = 0;
     while i < count {
-        t = tell_rescore(t, score_at(scores, i * SCORE_BYTES));
+        t = tell_rescore(rt, t, score_at(scores, i * SCORE_BYTES));
         i += 1;
     }
     t
 }
 
-pub(crate) fn answer_rescore(t: Table) -> bool {
+pub(crate) fn answer_rescore(rt: &HostRuntime, t: Table) -> bool {
     let mut scores = scores_room();
-    let part = read_part(&mut scores, SCORE_BYTES);
+    let part = read_part(rt, &mut scores, SCORE_BYTES);
     if !part.is_whole {
         return false;
     }
-    write_table(tell_rescores(t, &scores, part.count));
+    write_table(rt, tell_rescores(rt, t, &scores, part.count));
     true
 }
 
-pub(crate) fn answer_fit(t: Table) -> bool {
-    write_number(table::is_fit(t) as u64, 1);
+pub(crate) fn answer_fit(rt: &HostRuntime, t: Table) -> bool {
+    write_number(rt, table::is_fit(t) as u64, 1);
     true
 }
