@@ -27,8 +27,10 @@ use Rattle.cluster.specs.Reading.{reading_of, read_record}
 use Rattle.cluster.specs.Writing.{write_record}
 use Rattle.lists.specs.declared.listing.Listing.{Listing}
 use Rattle.lists.specs.Listing.{listing_of, read_list}
+use Rattle.lists.specs.Listing as listing
 use Rattle.gel.specs.declared.importing.Import.{Import}
 use Rattle.gel.specs.Import.{Imported, import_of, import_sheet}
+use Rattle.gel.specs.Import as gel
 use Rattle.kept.specs.declared.table.Table.{Table}
 use Rattle.kept.specs.View.{zero_table}
 use Rattle.kept.specs.Fit.{is_fit}
@@ -88,7 +90,7 @@ pub record OneOutcome : Type 0 where
   pub write_record : (r : Record) (room : List ℕ) → Only (In (write_record r room))
   -- lists
   pub read_list : (list : List ℕ) → Only (λ (r : Listing). listing_of r ≡ read_list narrow list)
-  pub check_list : (list : List ℕ) → Only (λ (a : Answer). sent_of a ≡ (read_list narrow list).sent)
+  pub check_list : (list : List ℕ) → Only (λ (a : Answer). sent_of a ≡ (listing.read_list narrow list).sent)
   -- gel
   pub import_sheet : (sheet room : List ℕ) → Only (Imports (import_sheet sheet room))
   -- kept
@@ -120,4 +122,4 @@ pub record OneOutcome : Type 0 where
   pub ladlepine_build : (list : List ℕ) (degree : ℕ) → Only (λ (r : ℕ). r ≡ digest (build_table narrow list degree).given)
   pub ladlepine_rescore : (list : List ℕ) (degree cluster : ℕ) (weight : ℤ) (state times : ℕ)
       → Only (λ (r : ℕ). r ≡ digest (rescored_times times cluster weight state (build_table narrow list degree).given))
-  pub ladlepine_import : (sheet room : List ℕ) → Only (λ (r : ℕ × List ℕ). r ≡ told_of (import_sheet sheet room))
+  pub ladlepine_import : (sheet room : List ℕ) → Only (λ (r : ℕ × List ℕ). r ≡ told_of (gel.import_sheet sheet room))
