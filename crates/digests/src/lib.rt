@@ -1,5 +1,5 @@
 // Thin functions for programs in other languages, to measure with: a table is too large to hand over, so a digest of it is handed back; a
-// room is the caller's, and its records are told. Cites `specs/Digest.antt` and `specs/Told.antt`.
+// room is the caller's, and its records are told. The crate `digests_c` exports them. Cites `specs/Digest.antt` and `specs/Told.antt`.
 //     ladlepine_build       the digest of a built table
 //     ladlepine_rescore     the digest of a built table after a number of rescorings of one cluster
 //     ladlepine_import      how many records importing a gel sheet writes into a room
@@ -56,8 +56,7 @@ fn digest_of<'a>(
 }
 
 // The digest of the table that a build of `list` hands back.
-#[unsafe(no_mangle)]
-pub extern "C" fn ladlepine_build(list: &[u8], degree: u32) -> u64
+pub fn ladlepine_build(list: &[u8], degree: u32) -> u64
     ensures { result ≡ digest (build_table narrow list.now degree).given }
 {
     let built = build(list, degree);
@@ -72,8 +71,7 @@ pub extern "C" fn ladlepine_build(list: &[u8], degree: u32) -> u64
 }
 
 // The digest of the table that a build of `list` hands back, after `times` rescorings of `cluster` to the same weight and state.
-#[unsafe(no_mangle)]
-pub extern "C" fn ladlepine_rescore(
+pub fn ladlepine_rescore(
     list: &[u8],
     degree: u32,
     cluster: u64,
@@ -102,8 +100,7 @@ pub extern "C" fn ladlepine_rescore(
 }
 
 // The records of the clusters of `sheet`, written at the start of `room`, and how many they are; 0 where the sheet is refused.
-#[unsafe(no_mangle)]
-pub extern "C" fn ladlepine_import(sheet: &[u8], room: &mut [u8]) -> u64
+pub fn ladlepine_import(sheet: &[u8], room: &mut [u8]) -> u64
     ensures { (result, room.new) ≡ told_of (import_sheet sheet.now room.old) }
 {
     let import = import_sheet(sheet, room);
