@@ -1,6 +1,6 @@
 -- The record rules (RULES 2), in the order in which they are told, of a cluster, a weight and a state as numbers. Laws:
 -- `proofs/Laws/Rule.antt`.
---     inRange z              a weight is -1,000,000 to 1,000,000
+--     in_range z              a weight is -1,000,000 to 1,000,000
 --     unscored_weight z s     the state is unscored and the weight isn't zero
 --     broken_rule c z s spare the rule that they break first, a spare byte beside them being set or not
 --     is_kept u               no rule is broken

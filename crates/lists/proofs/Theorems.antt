@@ -2,13 +2,13 @@
 --     accepts_iff                   a list is taken exactly when it is accepted, in the rules' words (`Accepted`)
 --     accepted_iff                  no reason for refusing it applies exactly then
 --     refuses_iff                   a refusal is sent back exactly when it is the first that applies
---     empty-iff, long-iff, cut-iff, bad-iff, repeated-iff (Laws/Reasons.antt)     what each reason says in words
+--     empty_iff, long_iff, cut_iff, bad_iff, repeated_iff (Laws/Reasons.antt)     what each reason says in words
 --     read-accepted                 what is given then: the rows of the list
---     row-iff, cluster-iff (Laws/Records.antt)     the rows of a list are its records, and their clusters those of its records
+--     row_iff, cluster_iff (Laws/Records.antt)     the rows of a list are its records, and their clusters those of its records
 --     rows_of-records, read_of_records     the order of records plays no part
 --     accepted_facts, accepted-rules, accepted-some, accepted-few     what is known of the rows of an accepted list
 --     written-accepted, written-rows (Laws/Written.antt)     rows in order, written one after the other, are an accepted list of these rows
---     without-records, without-rows, without-accepted (Laws/Without.antt)     an accepted list with its unscored records left out: its records
+--     without_records, without_rows, without_accepted (Laws/Without.antt)     an accepted list with its unscored records left out: its records
 --                                   are the scored ones, in their order, and it is accepted where there is one
 --     list_only, check_only         one outcome of `read_list`, and of `check_list`
 -- Assumes nothing.

@@ -8,14 +8,14 @@
 --     built_table_lem                                    what a successful build gives
 --     build-fit                                      the built table of an accepted list is fit
 --   demand 3, rescoring
---     rescore-accepts-iff (Changing/RescoredTables)  a rescoring succeeds exactly for a fit table, a cluster with a row and a score
---     rescore-refuses-iff (Changing/RescoredTables)  and gives a refusal exactly when it is the first that applies
+--     rescore_accepts_iff (Changing/RescoredTables)  a rescoring succeeds exactly for a fit table, a cluster with a row and a score
+--     rescore_refuses_iff (Changing/RescoredTables)  and gives a refusal exactly when it is the first that applies
 --     rescored-fit (Fitting/FitTables)               a fit table, rescored, is fit
---     rescore-keeps-others (Changing/RescoredTables) in any table, no row changes that doesn't contain the rescored cluster
+--     rescore_keeps_others (Changing/RescoredTables) in any table, no row changes that doesn't contain the rescored cluster
 --     built_rescores_iff                             in the built table of a list: exactly for the cluster of a record and a score
 --     rescore_is_fresh-build                         and what is given is the build of the list with that record rewritten
 --     rescore_all_is_build                           and so on, for any changes one after another, taken or not
---     changes-accepted (Changing/Changes)            the list so changed is accepted
+--     changes_accepted (Changing/Changes)            the list so changed is accepted
 --   strict marking, one outcome for every input
 --     build-only                                     `build`
 --     rescore-only (Changing/RescoredTables)         `rescore`

@@ -1,5 +1,5 @@
 -- What the rules demand of trees and tables (RULES 12), each under one name, for every degree bound, width and limit.
---     worked-is-built (Built.antt)      demand 2: the row worked out from tuples is the row defined by trees
+--     worked_is_built (Built.antt)      demand 2: the row worked out from tuples is the row defined by trees
 --     none_iff, count_iff               "no tree" exactly where there is none, and count zero exactly then
 --     best-some                         else one is found
 --     best-is_tree, best-first, best-only     the best is a tree, comes before every other, and is the only one that does

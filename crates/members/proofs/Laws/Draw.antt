@@ -3,7 +3,7 @@
 --     has_tree_no_row, has_tree_no_count, has_tree-count     whether there is one, in turn
 --     drawn_unfit, drawn_no_tree, drawn-marks, drawn-whole     what is drawn, by the tests in turn
 --     nothing_refused      where all pass, no reason applies
---     isSame-refl, is_same→ weights that are the same
+--     is_same_refl, is_same→ weights that are the same
 --     found_unscored, found_other, found_no_tree, found_tree     what is drawn of the leaf set's row, by the tests of its marks in turn
 -- Assumes nothing.
 use mathlib.Core.Path.{◌≡◌, sym, ap, ap₂, ◌∙◌}

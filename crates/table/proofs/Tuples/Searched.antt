@@ -1,5 +1,5 @@
 -- Rows in ascending order, and how many of them lie below a number; the rows as parts, and the sums over covers by them.
---     Between, between-…       what bisection keeps: the first are below, the last are not
+--     Between, between_…       what bisection keeps: the first are below, the last are not
 --     below-le, below_mono     the place is not after a row that isn't below, nor after that of a larger number
 --     Begun, begun_none, begun_asks, begun_more, starts_of_begun     where each highest taxon starts, taxon by taxon
 --     parts_descend            the parts of the first rows fall

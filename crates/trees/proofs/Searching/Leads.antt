@@ -7,7 +7,7 @@
 --     covers_of-zero_is               with no child left: nothing is left to cover
 --     covers_of_stop                  nothing left to cover: the empty cover and no other
 --     covers_of-first                 a row above R in front plays no part
---     within b, coversOf-within      nor do rows above any bound from R on
+--     within b, covers_of-within      nor do rows above any bound from R on
 --     covers_of_local                 lists that agree on the rows up to such a bound have the same covers of R
 --     covers_of-scored                and so have their scored rows
 -- Assumes nothing.
