@@ -28,7 +28,7 @@ returns-then-given-at c =
     let a = c.args in
     let fit = sym c.if-not-is_fit.ensures in
     rescore_no_row narrow a.given a.cluster a.weight a.state fit
-    (row_missing a.given (capped a.given fit) a.cluster _ c.place_of-at.ensures c.if-given-at.true)
+    (row_missing a.given (capped a.given fit) a.cluster _ c.place_of-at.ensures (omega arith))
 
 pub returns-then-not-is_score : goal.returns-then-not-is_score
 returns-then-not-is_score c =

@@ -51,7 +51,7 @@ loop-i-init t c =
 -- ---- the row
 
 pub overflow_sub-other : goal.overflow_sub-other
-overflow_sub-other t c = le_of_inside _ _ (true_T (led_of c.loop-i.invariant c.loop-i-test.true c.if-is_part.ensures).within)
+overflow_sub-other t c = le_of_inside _ _ (T_and _ _ (true_T (sym c.if-is_part.ensures))).0
 
 -- ---- the row is all of what is left
 
