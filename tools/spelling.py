@@ -6,7 +6,7 @@ port script, and once only.
     python3 tools/spelling.py --table    prints the table, old name and new one, and changes nothing
 
 The rules. A name in camel case that begins with a small letter becomes snake case (`leafSet`, `leaf_set`). In a name with dashes a dash stays
-only between two names, as in `length-keep`; a plain word hangs on by `_`, as in `leaf_set_iff`. A name that would fall together with another
+only between two names, as in `length-keep-lt`; a plain word hangs on by `_`, as in `leaves_iff`. A name that would fall together with another
 in some file, or with a field or a binder that it stands beside, ends in `_lem`. Types, names that the checker makes, functions, C names and
 strings keep their spelling.
 """
