@@ -1,5 +1,5 @@
 -- `cluster::writing::write_record` meets its contract: each return is one case of writing. Assumes nothing.
-use Rattle.std.proofs.Common.{◌≡◌, Bool, false, sym, ap, ◌∙◌}
+use Rattle.std.proofs.Common.{◌≡◌, Bool, false, sym, ap, ◌∙◌, arith}
 use Rattle.answers.specs.declared.refusal.Answer.TheVariants.{Done}
 use Rattle.cluster.specs.declared.record.Record.{Record}
 use Rattle.answers.specs.Outcome.{outcome_of}
@@ -24,10 +24,10 @@ returns-then-not-is_kept c =
 pub returns-then-room-lt-RECORD_BYTES : goal.returns-then-room-lt-RECORD_BYTES
 returns-then-room-lt-RECORD_BYTES c =
     let told = ruling ((goal.at.returns-then-room-lt-RECORD_BYTES c).After-is_kept) in
-    sym (write_record-short c.args.r c.args.room.now (told ∙ c.if-not-is_kept.false) c.if-room-lt-RECORD_BYTES.true)
+    sym (write_record-short c.args.r c.args.room.now (told ∙ c.if-not-is_kept.false) (omega arith))
 
 pub returns : goal.returns
 returns c =
     let told = ruling ((goal.at.returns c).After-is_kept) in
     ap (outcome_of (Done record_bytes)) c.put_record.ensures
-    ∙ sym (write_record-kept c.args.r c.args.room.now (told ∙ c.if-not-is_kept.false) c.if-room-lt-RECORD_BYTES.false)
+    ∙ sym (write_record-kept c.args.r c.args.room.now (told ∙ c.if-not-is_kept.false) (omega arith))

@@ -1,4 +1,5 @@
 -- `gel::importing::import_sheet` meets its contract: one law for each way in which it returns. Assumes nothing.
+use Rattle.std.proofs.Common.{arith}
 use borrow.Author.Tests.{not-true, not-false}
 use Rattle.laws.proofs.Tests.{true_T}
 use Rattle.gel.proofs.Laws.Ends.{ends_bad, ends-many, ends-short, ends_done}
@@ -10,13 +11,13 @@ returns-then-not-form c = ends_bad _ _ _ c.form_of-form.ensures (not-true _ c.if
 
 pub returns-then-rows-gt-MOST_RECORDS : goal.returns-then-rows-gt-MOST_RECORDS
 returns-then-rows-gt-MOST_RECORDS c =
-    ends-many _ _ _ c.form_of-form.ensures (true_T (not-false _ c.if-not-form.false)) _ c.tally_of-tally.ensures c.if-rows-gt-MOST_RECORDS.true _
+    ends-many _ _ _ c.form_of-form.ensures (true_T (not-false _ c.if-not-form.false)) _ c.tally_of-tally.ensures (omega arith) _
     c.refused-then-rows-gt-MOST_RECORDS.ensures
 
 pub returns-then-room-rows : goal.returns-then-room-rows
 returns-then-room-rows c =
     ends-short _ _ _ c.form_of-form.ensures (true_T (not-false _ c.if-not-form.false)) _ c.tally_of-tally.ensures c.if-rows-gt-MOST_RECORDS.false
-    c.if-room-rows.true _ c.refused-then-room-rows.ensures
+    (omega arith) _ c.refused-then-room-rows.ensures
 
 pub put_rows-requires : goal.put_rows-requires
 put_rows-requires c =
