@@ -20,8 +20,6 @@ best-fits : (c : goal.After-best-1)
     → SFits w64 (get_or c.args.bests.now c.loop-i.i (pos 0))
 best-fits c = search rules
 
--- ---- needs
-
 pub loop-i-init : goal.loop-i-init
 loop-i-init c = (omega arith, sym (digest_to-none _))
 

@@ -5,12 +5,6 @@ use Rattle.kept.specs.declared.table.Table.{Table}
 use Rattle.digests.specs.Digest.{digest}
 use Rattle.digests.proofs.ladlepine_build.Goals as goal
 
--- ---- places
-
--- half of the table's arrays are lent to the digest
-
--- ---- needs
-
 pub returns : goal.returns
 returns c =
     ◌∙◌ {b = digest c.build-built.result.table} c.digest_of.ensures

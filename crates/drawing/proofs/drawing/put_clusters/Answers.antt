@@ -24,18 +24,3 @@ shape_of-room c = copied_length c.requires.clusters_in_bounds c.loop-i.invariant
 
 pub returns : goal.returns
 returns c = copied_all c.requires.clusters_in_bounds c.loop-i.invariant c.loop-i-test.false
-
-pub offset_bounds-clusters-i : goal.offset_bounds-clusters-i
-offset_bounds-clusters-i c = omega arith
-
-pub bounds-clusters-i : goal.bounds-clusters-i
-bounds-clusters-i c = omega arith
-
-pub offset_bounds-room-i : goal.offset_bounds-room-i
-offset_bounds-room-i c = omega arith
-
-pub overflow_add-i : goal.overflow_add-i
-overflow_add-i c = omega arith
-
-pub loop-i-smaller : goal.loop-i-smaller
-loop-i-smaller c = omega arith

@@ -8,27 +8,9 @@ use Rattle.drawing.proofs.writing.child_with.Goals as goal
 pub loop-i-init : goal.loop-i-init
 loop-i-init c = let a = c.args in (omega arith, child_from_lem a.xs.now a.part a.taxon)
 
-pub larger_part-best-requires : goal.larger_part-best-requires
-larger_part-best-requires c = tt
-
 pub loop-i-preserved : goal.loop-i-preserved
 loop-i-preserved c =
     (omega arith, child_turn _ _ _ _ _ _ c.requires c.loop-i-test.true c.larger_part-best.ensures ∙ c.loop-i.invariant.1)
 
 pub returns : goal.returns
 returns c = child_none _ _ _ _ _ c.loop-i-test.false ∙ c.loop-i.invariant.1
-
-pub overflow_shl-bit : goal.overflow_shl-bit
-overflow_shl-bit c = omega arith
-
-pub offset_bounds-xs-i : goal.offset_bounds-xs-i
-offset_bounds-xs-i c = omega arith
-
-pub bounds-xs-i : goal.bounds-xs-i
-bounds-xs-i c = omega arith
-
-pub overflow_add-i : goal.overflow_add-i
-overflow_add-i c = omega arith
-
-pub loop-i-smaller : goal.loop-i-smaller
-loop-i-smaller c = omega arith
