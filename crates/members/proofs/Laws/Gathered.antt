@@ -1,10 +1,10 @@
 -- The marked rows gathered, one by one: their clusters in an array, their weights added up, and whether each is scored.
---     gathered_skips, gathered_takes     one row more, marked or not
+--     gathered_none, gathered_skips, gathered_takes     no row; one row more, marked or not
 --     added, added_fits     the sum with the weight of one row more, as the code has it, fits 64 bits
 --     members-length, members-front, members-fit     the clusters of rows in an array: they are its first, and it is long enough
---     gathered-front       so for the marked rows
+--     gathered-front, gathered-fits, gathered-count     so for the marked rows
 -- Assumes nothing.
-use mathlib.Core.Path.{◌≡◌, sym, ap, ap₂, ◌∙◌}
+use mathlib.Core.Path.{◌≡◌, refl, sym, ap, ap₂, ◌∙◌}
 use mathlib.Core.Bool.{Bool, true, false, ◌&&◌}
 use mathlib.Core.List.{List, map, reverse}
 use Prim.Native.Nat.{ℕ, ◌+◌, ◌-◌, ◌*◌, ◌≤◌, ◌<◌}
@@ -42,6 +42,10 @@ module _ (cs rows : List ℕ) where
   members-fit = omega (arith, members-length, length-append ascending (replicate (row_cap - length rows) 0))
 
 -- ---- the marked rows
+pub gathered_none : {cs : List ℕ} {ws : List ℤ} {ss : List ℕ} {m : ℕ}
+    → Gathered cs ws ss m 0 (record { clusters = replicate row_cap 0; size = 0; weight = pos 0; scored = true })
+gathered_none = record { size = refl; few = omega arith; clusters = refl; weight = refl; near = omega arith; scored = refl }
+
 module _ {cs : List ℕ} {ws : List ℤ} {ss : List ℕ} {m n : ℕ} {r : Members} (g : Gathered cs ws ss m n r) where
   abbrev rows : List ℕ
   rows = marked_to m n
@@ -51,6 +55,12 @@ module _ {cs : List ℕ} {ws : List ℤ} {ss : List ℕ} {m n : ℕ} {r : Member
 
   pub gathered-front : take r.size r.clusters ≡ members_to cs m n
   gathered-front = ap₂ take g.size g.clusters ∙ members-front cs rows
+
+  pub gathered-fits : r.size ≤ length r.clusters
+  gathered-fits = omega (arith, g.size, ap length g.clusters, members-fit cs rows)
+
+  pub gathered-count : r.size ≡ length (take r.size r.clusters)
+  gathered-count = g.size ∙ sym (ap length gathered-front ∙ members-length cs rows)
 
   -- one row more
   pub gathered_skips : has_mark m n ≡ false → Gathered cs ws ss m (n + 1) r

@@ -2,14 +2,15 @@
 --     are_nested, has_taxon, has_taxa, are_few     the tests by name
 --     is_tree-nested, is_tree-top, is_tree-taxa, is_tree-few     the tests in turn
 --     taxon_shift              taxon i as a shift makes it
---     taxa_stop                the one-taxon clusters, upward: one that doesn't pass
+--     taxa-more, taxa_stop     the one-taxon clusters, upward: one that passes, and one that doesn't
 -- Assumes nothing.
 use mathlib.Core.Path.{◌≡◌, refl, sym, ap, ◌∙◌}
 use mathlib.Core.Bool.{Bool, true, false, not, ◌&&◌, ◌||◌, and-false}
 use mathlib.Core.List.{List}
-use Prim.Native.Nat.{ℕ, zero, suc, ◌-◌, ◌*◌, ◌%◌, ◌^◌, ◌<◌}
+use Prim.Native.Nat.{ℕ, zero, suc, ◌+◌, ◌-◌, ◌*◌, ◌%◌, ◌^◌, ◌<◌}
 use native.Mathlib.Decide.{ℕ_discrete}
 use native.Mathlib.Nat.{one-mul, mod-eq_of_lt}
+use native.Mathlib.Numerals.{add-one}
 use native.Mathlib.Omega.{arith}
 use lib.Dec.{leb}
 use lib.ListN.{length}
@@ -70,6 +71,9 @@ pub taxon_shift : (i : ℕ) → i < narrow.taxa → 1 * 2 ^ i % word_values ≡ 
 taxon_shift i h = ap (λ (x : ℕ). x % word_values) (one-mul (2 ^ i)) ∙ mod-eq_of_lt (omega (arith, pow-lt h))
 
 module _ (p : ℕ → Bool) where
+  pub taxa-more : (i : ℕ) {u : ℕ} → u ≡ 2 ^ i → every p (taxa i) ≡ true → p u ≡ true → every p (taxa (i + 1)) ≡ true
+  taxa-more i e h k = rw (add-one i, ← e, k, h)
+
   pub taxa_stop : (w i : ℕ) {u : ℕ} → u ≡ 2 ^ i → i < w → p u ≡ false → every p (taxa w) ≡ false
   taxa_stop zero i e l h = absurd (omega arith)
   taxa_stop (suc w) i e l h = go (ℕ_discrete i w) (λ k. taxa_stop w i e k h)

@@ -1,6 +1,6 @@
 -- Weights of 32 bits added up in 64: no sum of 128 of them is too large.
 --     near_fits       a sum of so many weights fits 64 bits
---     cast_back       a weight of 32 bits is the same in 64
+--     cast_fits, cast_back     a weight of 32 bits fits 64, and is the same there
 --     weight_skips, weight_takes     the weights of the marked rows: one row more, marked or not
 -- Assumes nothing.
 use mathlib.Core.Path.{◌≡◌, ap, ◌∙◌}
@@ -27,6 +27,9 @@ near_fits z i h k = record { sfits = omega (arith, mag_le_abs z) }
 module _ (z : ℤ) (h : mag z < weight_span) where
   small : SFits w32 z
   small = record { sfits = h }
+
+  pub cast_fits : SFits w64 (to_z w32 (of_z w32 z))
+  cast_fits = rw (to_z-of_z small) (sfits_widen tt small)
 
   pub cast_back : to_z w64 (of_z w64 (to_z w32 (of_z w32 z))) ≡ z
   cast_back = ap (λ (x : ℤ). to_z w64 (of_z w64 x)) (to_z-of_z small) ∙ to_z-of_z {w = w64} (sfits_widen {w = w32} {w' = w64} (tt {0}) small)

@@ -18,8 +18,10 @@ returns-then-weight-best c =
 pub returns-then-not-is_tree : goal.returns-then-not-is_tree
 returns-then-not-is_tree c =
     c.not_drawn-then-not-is_tree.ensures
-    ∙ found_no_tree c.requires c.members_of-members.ensures (not-false _ c.if-not-members.false) (same_bits w64 (search rules) (search rules) c.if-weight-best.false) (sym c.if-not-is_tree.ensures)
+    ∙ found_no_tree c.requires c.members_of-members.ensures (not-false _ c.if-not-members.false)
+    (same_bits w64 (search rules) (search rules) c.if-weight-best.false) (sym c.if-not-is_tree.ensures)
 
 pub returns : goal.returns
 returns c =
-    found_tree c.requires c.members_of-members.ensures (not-false _ c.if-not-members.false) (same_bits w64 (search rules) (search rules) c.if-weight-best.false) (sym c.if-not-is_tree.ensures)
+    found_tree c.requires c.members_of-members.ensures (not-false _ c.if-not-members.false)
+    (same_bits w64 (search rules) (search rules) c.if-weight-best.false) (sym c.if-not-is_tree.ensures)

@@ -1,4 +1,5 @@
--- The invariant of `members::nesting::are_few`: no member has too many children where none from place i on has. The measure is the places left. Assumes nothing.
+-- The invariant of `members::nesting::are_few`: no member has too many children where none from place i on has. The measure is the places
+-- left. Assumes nothing.
 use Rattle.std.proofs.Common.{ℕ, ◌-◌, ◌||◌, leb, length}
 use Rattle.laws.specs.Cluster.{single}
 use Rattle.trees.specs.Tree.{children}

@@ -1,4 +1,5 @@
--- The invariant of `members::nesting::are_nested`: all are inside and nest with all where those from place i on are and do. The measure is the places left. Assumes nothing.
+-- The invariant of `members::nesting::are_nested`: all are inside and nest with all where those from place i on are and do. The measure
+-- is the places left. Assumes nothing.
 use Rattle.std.proofs.Common.{ℕ, ◌-◌, ◌&&◌, length}
 use Rattle.laws.specs.Cluster.{inside, nested}
 use Rattle.laws.specs.Lists.{every}

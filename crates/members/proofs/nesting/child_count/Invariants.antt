@@ -1,4 +1,5 @@
--- The invariant of `members::nesting::child_count`: `count` and the children from place i on are all children. The measure is the places left. Assumes nothing.
+-- The invariant of `members::nesting::child_count`: `count` and the children from place i on are all children. The measure is the places
+-- left. Assumes nothing.
 use Rattle.std.proofs.Common.{ℕ, ◌-◌, not, ◌&&◌, length}
 use Rattle.laws.specs.Cluster.{strict}
 use Rattle.laws.specs.Lists.{any}

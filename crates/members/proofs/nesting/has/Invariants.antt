@@ -1,4 +1,5 @@
--- The invariant of `members::nesting::has`: the cluster is one of all where it is one of those from place i on. The measure is the places left. Assumes nothing.
+-- The invariant of `members::nesting::has`: the cluster is one of all where it is one of those from place i on. The measure is the places
+-- left. Assumes nothing.
 use Rattle.std.proofs.Common.{ℕ, ◌-◌, eqb, length}
 use Rattle.members.proofs.Laws.Scan.{AnyFrom}
 use Rattle.members.proofs.nesting.has.Given as goal

@@ -1,4 +1,5 @@
--- The invariant of `members::nesting::has_between`: one of all lies between where one of those from place i on does. The measure is the places left. Assumes nothing.
+-- The invariant of `members::nesting::has_between`: one of all lies between where one of those from place i on does. The measure is the
+-- places left. Assumes nothing.
 use Rattle.std.proofs.Common.{ℕ, ◌-◌, ◌&&◌, length}
 use Rattle.laws.specs.Cluster.{strict}
 use Rattle.members.proofs.Laws.Scan.{AnyFrom}

@@ -1,4 +1,5 @@
--- The invariant of `members::nesting::has_taxa`: of the taxa below `taxon` each that is the cluster's is in the set. The measure is the taxa left. Assumes nothing.
+-- The invariant of `members::nesting::has_taxa`: of the taxa below `taxon` each that is the cluster's is in the set. The measure is the
+-- taxa left. Assumes nothing.
 use Rattle.std.proofs.Common.{◌≡◌, true, ◌-◌, ◌≤◌}
 use Rattle.laws.specs.Limits.{narrow}
 use Rattle.members.proofs.Laws.TreeTest.{has_taxa}

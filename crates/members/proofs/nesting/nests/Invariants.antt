@@ -1,4 +1,5 @@
--- The invariant of `members::nesting::nests`: all are nested in or apart from it where all from place i on are. The measure is the places left. Assumes nothing.
+-- The invariant of `members::nesting::nests`: all are nested in or apart from it where all from place i on are. The measure is the places
+-- left. Assumes nothing.
 use Rattle.std.proofs.Common.{ℕ, ◌-◌, length}
 use Rattle.laws.specs.Cluster.{nested}
 use Rattle.members.proofs.Laws.Scan.{EveryFrom}

@@ -1,9 +1,10 @@
 -- The rows passed are at most 128, and the measure is those left. Assumes nothing.
-use Rattle.std.proofs.Common.{◌-◌, ◌≡◌, ◌≤◌, length}
+use Rattle.std.proofs.Common.{◌≡◌, length}
+use Rattle.probe.proofs.Columns.{Passed, left}
 use Rattle.probe.proofs.layout.weights_at.Given as goal
 
 abbrev pub invariant-loop-i : goal.invariant-loop-i
-invariant-loop-i l = (l.i ≤ 128) × (length l.column ≡ 128)
+invariant-loop-i l = Passed l.i × (length l.column ≡ 128)
 
 abbrev pub decreases-loop-i : goal.decreases-loop-i
-decreases-loop-i l = 128 - l.i
+decreases-loop-i l = left l.i

@@ -24,10 +24,6 @@ columns_at s =
     columns s.args.clusters.now s.args.states.now s.args.counts.now s.args.marks.now s.args.bests.now
     s.args.lows.now s.args.highs.now
 
--- a scored row of two taxa or more, from where its own tally is at hand
-
--- the call, from where the row is known to have two taxa or more
-
 room : (s : goal.Start) → s.args.i < row_cap
 room s = omega (arith, s.requires.place, s.requires.capped)
 
