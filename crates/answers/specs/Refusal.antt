@@ -1,12 +1,11 @@
 -- What is sent back, in the rules' own numbers (RULES 8). Laws: `proofs/Laws/Refusal.antt`.
 --     number_of f       the number of a refusal, 1 to 13
 --     position_of f     the position told with it: 5 and 6 have that of a record, 12 that of a line, the others 0
+--     Answer           how an operation ended: a success with a number, or a refusal
 --     Sent             what an operation sends back beside its record, table or room
 --     sent_of a         an answer so sent: every promise speaks through it
 -- Assumes nothing.
-use Rattle.std.specs.Prelude.{ℕ}
-use Rattle.answers.specs.declared.refusal.Answer.{Answer}
-use Rattle.answers.specs.declared.refusal.Answer.TheVariants.{Done, Refused}
+use Rattle.std.specs.Prelude.{ℕ, Result, Ok, Err}
 use Rattle.answers.specs.declared.refusal.Refusal.{Refusal}
 use Rattle.answers.specs.declared.refusal.Refusal.TheVariants.{NoBytes, WrongLength, TooLong, DegreeOut, BadRecord, Repeated}
 use Rattle.answers.specs.declared.refusal.Refusal.TheVariants.{NoTree, Unfit, NoRow, BadScore, NoRoom, BadSheet, ManyClusters}
@@ -41,6 +40,9 @@ position_of NoRoom = 0
 position_of (BadSheet i) = i
 position_of ManyClusters = 0
 
+abbrev pub Answer : Type 0
+Answer = Result ℕ Refusal
+
 pub record Sent : Type 0 where
   -- the refusal's number and position, both 0 on a success
   pub number : ℕ
@@ -49,5 +51,5 @@ pub record Sent : Type 0 where
   pub told : ℕ
 
 abbrev pub sent_of : Answer → Sent
-sent_of (Done n) = record { number = 0; position = 0; told = n }
-sent_of (Refused f) = record { number = number_of f; position = position_of f; told = 0 }
+sent_of (Ok n) = record { number = 0; position = 0; told = n }
+sent_of (Err f) = record { number = number_of f; position = position_of f; told = 0 }

@@ -1,13 +1,13 @@
 // What is sent back: the refusals and the answer of an operation (RULES 8). Cites `specs/Refusal.antt`.
 //     Refusal       the thirteen refusals, in the order of their numbers
-//     Answer        a success or a refusal
+//     Answer        what an operation sends back: a success or a refusal
 //     number_of     the rules' number of a refusal
 //     position_of   the position told with it
 ghost use Rattle.std.specs.Prelude.{◌≡◌};
 ghost use Rattle.answers.specs.Refusal.{number_of, position_of};
 
 // Why an operation was refused. A case holds a position, from 0, where the rules have one.
-#[derive(Clone, Copy)]
+#[derive(Clone, Copy, Debug, PartialEq, Eq)]
 pub enum Refusal {
     // 1: the list has no bytes.
     NoBytes,
@@ -37,14 +37,9 @@ pub enum Refusal {
     ManyClusters,
 }
 
-// How an operation ended.
-#[derive(Clone, Copy)]
-pub enum Answer {
-    // It succeeded, and tells how many bytes or numbers it wrote; 0 where it tells nothing.
-    Done(usize),
-    // It was refused, and wrote nothing.
-    Refused(Refusal),
-}
+// How an operation ended: `Ok` with how many bytes or numbers it wrote, 0 where it tells nothing; or `Err` with why it was refused, and then
+// it wrote nothing.
+pub type Answer = Result<usize, Refusal>;
 
 // The rules' number of a refusal, 1 to 13.
 pub fn number_of(refusal: Refusal) -> u64
@@ -72,18 +67,7 @@ pub fn position_of(refusal: Refusal) -> usize
     ensures { result ≡ position_of refusal }
 {
     match refusal {
-        Refusal::NoBytes => 0,
-        Refusal::WrongLength => 0,
-        Refusal::TooLong => 0,
-        Refusal::DegreeOut => 0,
-        Refusal::BadRecord(position) => position,
-        Refusal::Repeated(position) => position,
-        Refusal::NoTree => 0,
-        Refusal::Unfit => 0,
-        Refusal::NoRow => 0,
-        Refusal::BadScore => 0,
-        Refusal::NoRoom => 0,
-        Refusal::BadSheet(line) => line,
-        Refusal::ManyClusters => 0,
+        Refusal::BadRecord(at) | Refusal::Repeated(at) | Refusal::BadSheet(at) => at,
+        _ => 0,
     }
 }

@@ -5,20 +5,28 @@
 
 use answers::Answer;
 use input::read_input;
+use report::{LINE_CAP, line};
+use std::io;
 
-// Prints the line of one degree bound; false where it can't be written.
-fn print_line(to: &impl Print, list: &[u8], degree: u32) -> bool {
-    let mut room = [0u8; 172];
-    let answer = report::line(list, degree, &mut room);
-    if let Answer::Done(n) = answer {
-        return to.write_all(&room[..n]).is_ok();
-    }
-    false
+// One byte more than the longest list, so that a longer one is seen.
+const INPUT_CAP: usize = 1537;
+
+// Prints the line of one degree bound.
+fn print_line(to: &impl Print, list: &[u8], degree: u32) -> io::Result<()> {
+    let mut room = [0u8; LINE_CAP];
+    let Ok(size) = line(list, degree, &mut room) else {
+        // no line is longer than the room
+        unreachable!()
+    };
+    to.write_all(&room[..size])
 }
 
-// Prints the lines, up to the first that can't be written; false where there is one.
-fn print_lines(to: &impl Print, list: &[u8]) -> bool {
-    print_line(to, list, 3) && print_line(to, list, 4) && print_line(to, list, 5)
+// Prints the lines, up to the first that can't be written.
+fn print_lines(to: &impl Print, list: &[u8]) -> io::Result<()> {
+    for degree in 3..=5 {
+        print_line(to, list, degree)?;
+    }
+    Ok(())
 }
 
 // Says a text; where that can't be written, nothing is left to be done.
@@ -27,14 +35,12 @@ fn tell(to: &impl Print, text: &[u8]) {
 }
 
 fn main(rt: HostRuntime) {
-    // one byte more than the longest list, so that a longer one is seen
-    let mut buffer = [0u8; 1537];
+    let mut buffer = [0u8; INPUT_CAP];
     let list = read_input(&mut rt.stdin(), &mut buffer);
-    let n = list.count;
     if !list.is_read {
         tell(&rt.stderr(), b"besttree: standard input can't be read\n");
     }
-    if !print_lines(&rt.stdout(), &buffer[..n]) {
+    if print_lines(&rt.stdout(), &buffer[..list.count]).is_err() {
         tell(
             &rt.stderr(),
             b"besttree: standard output can't be written\n",

@@ -21,8 +21,8 @@ use Rattle.laws.proofs.Tests.{T_and, T_true, T-of-not, true_T}
 use Rattle.laws.proofs.Width.{narrow_facts}
 use Rattle.cluster.specs.declared.reading.Reading.{Reading}
 use Rattle.cluster.specs.declared.record.Record.{Record}
-use Rattle.answers.specs.declared.refusal.Answer.{Answer}
-use Rattle.answers.specs.declared.refusal.Answer.TheVariants.{Done}
+use Rattle.answers.specs.Refusal.{Answer}
+use Rattle.std.specs.Prelude.{Ok}
 use Rattle.cluster.specs.Bytes.{byte_values}
 use Rattle.answers.specs.Outcome.{Outcome, outcome_of}
 use Rattle.cluster.specs.Record.{record_bytes, row_of, row_in, record_of, has_spare, bytes_of}
@@ -89,21 +89,21 @@ module _ (r : Record) (room : List ℕ) where
 
 -- what was written into any room, read again, is the record
 pub read_write_back : (r : Record) (room : List ℕ) → T (keeps_rules narrow (row_in r)) → record_bytes ≤ length room
-    → read_record (take record_bytes (write_record r room).given) ≡ outcome_of (Done 0) r
+    → read_record (take record_bytes (write_record r room).given) ≡ outcome_of (Ok 0) r
 read_write_back r room h fits =
     let e = T_true _ (T_and (ltb r.cluster (2 ^ narrow.taxa)) _ h).1 in
     ap (λ (o : Outcome (List ℕ)). read_record (take record_bytes o.given)) (write_record-kept r room e fits)
     ∙ read_record-kept (bytes_of narrow (row_in r)) refl (ap is_kept (bytes_of_rule narrow (row_in r) narrow_facts h) ∙ e)
-    ∙ ap (outcome_of (Done 0)) (record_of-bytes r h)
+    ∙ ap (outcome_of (Ok 0)) (record_of-bytes r h)
 
 -- accepted bytes, read and written into any room that is long enough, are the same bytes, with the room's own behind them
 pub write_read_back : (l room : List ℕ) → ((i : ℕ) → get_or l i 0 < byte_values) → (read_record l).sent.number ≡ 0
     → record_bytes ≤ length room
-    → write_record (read_record l).given room ≡ outcome_of (Done record_bytes) (l ++ drop record_bytes room)
+    → write_record (read_record l).given room ≡ outcome_of (Ok record_bytes) (l ++ drop record_bytes room)
 write_read_back l room byte n h =
     let p = (read_accepts_iff l).0 n in
     let r = row_of narrow l in
     let clear = (kept→keeps r.cluster r.weight r.state (has_spare narrow l) (true_T p.1)).no_spare in
     ap (λ (o : Outcome Record). write_record o.given room) (read_record-kept l p.0 p.1)
     ∙ write_record-kept (record_of l) room (ap (λ (b : Bool). is_kept (broken_rule r.cluster r.weight r.state b)) (sym clear) ∙ p.1) h
-    ∙ ap (λ (s : List ℕ). outcome_of (Done record_bytes) (s ++ drop record_bytes room)) (bytes_of-row narrow l byte p.0 clear)
+    ∙ ap (λ (s : List ℕ). outcome_of (Ok record_bytes) (s ++ drop record_bytes room)) (bytes_of-row narrow l byte p.0 clear)

@@ -6,7 +6,7 @@
 --     read_reasons l     why reading one record is refused: 2 unless exactly 12 bytes are given, then 5
 --     read_record l      what reading the bytes l gives
 -- Assumes nothing.
-use Rattle.std.specs.Prelude.{not, List, [], ◌∷◌, ℕ, eqb, pos, length}
+use Rattle.std.specs.Prelude.{Option, not, List, [], ◌∷◌, ℕ, eqb, pos, length}
 use Rattle.laws.specs.Limits.{Width, narrow}
 use Rattle.cluster.specs.declared.reading.Reading.{Reading}
 use Rattle.cluster.specs.declared.record.Record.{Record}
@@ -23,7 +23,7 @@ reading_of r = outcome_of r.answer r.«record»
 abbrev pub zero_record : Record
 zero_record = record { cluster = 0; weight = pos 0; state = 0 }
 
-abbrev pub rule_of : Width → List ℕ → Rule
+abbrev pub rule_of : Width → List ℕ → Option Rule
 rule_of W l = let r = row_of W l in broken_rule r.cluster r.weight r.state (has_spare W l)
 
 abbrev pub KeepsBytes : Width → List ℕ → Type 0

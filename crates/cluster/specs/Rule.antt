@@ -2,18 +2,18 @@
 -- `proofs/Laws/Rule.antt`.
 --     in_range z              a weight is -1,000,000 to 1,000,000
 --     unscored_weight z s     the state is unscored and the weight isn't zero
---     broken_rule c z s spare the rule that they break first, a spare byte beside them being set or not
---     is_kept u               no rule is broken
+--     broken_rule c z s spare the rule that they break first, if they break one, a spare byte beside them being set or not
+--     is_kept o               no rule is broken
 --     is_score z s            weight and state keep the rules, whatever the cluster
 --     keeps_rules W r         a row keeps them, and its cluster is within the width
 --     Keeps c z s spare, KeepsScore z s     the rules as facts, a field for each sentence
 -- Assumes nothing.
-use Rattle.std.specs.Prelude.{◌≡◌, ◌≢◌, Bool, true, false, not, ◌&&◌, cond, ℕ, ◌^◌, ◌≤◌, T, eqb, ltb, ℤ, pos, nat_abs}
+use Rattle.std.specs.Prelude.{◌≡◌, ◌≢◌, Option, None, Some, Bool, true, false, not, ◌&&◌, cond, ℕ, ◌^◌, ◌≤◌, T, eqb, ltb, ℤ, pos, nat_abs}
 use Rattle.laws.specs.Limits.{Width, weight_max, is_within}
 use Rattle.laws.specs.State.{unscored, is_state}
 use Rattle.laws.specs.Row.{Row}
 use Rattle.cluster.specs.declared.rule.Rule.{Rule}
-use Rattle.cluster.specs.declared.rule.Rule.TheVariants.{Kept, EmptyCluster, UnknownState, SpareBytes, UnscoredWeight, WeightRange}
+use Rattle.cluster.specs.declared.rule.Rule.TheVariants.{EmptyCluster, UnknownState, SpareBytes, UnscoredWeight, WeightRange}
 
 abbrev pub in_range : ℤ → Bool
 in_range = is_within weight_max
@@ -22,22 +22,18 @@ abbrev pub unscored_weight : ℤ → ℕ → Bool
 unscored_weight z s = eqb s unscored && not (eqb (nat_abs z) 0)
 
 -- empty cluster, state, spare bytes, unscored with a weight, weight out of range: the first that applies
-unfoldable pub broken_rule : ℕ → ℤ → ℕ → Bool → Rule
+unfoldable pub broken_rule : ℕ → ℤ → ℕ → Bool → Option Rule
 broken_rule c z s spare =
-    cond (eqb c 0) EmptyCluster
-    (cond (not (is_state s)) UnknownState
-    (cond spare SpareBytes
-    (cond (unscored_weight z s) UnscoredWeight
-    (cond (not (in_range z)) WeightRange
-    Kept))))
+    cond (eqb c 0) (Some EmptyCluster)
+    (cond (not (is_state s)) (Some UnknownState)
+    (cond spare (Some SpareBytes)
+    (cond (unscored_weight z s) (Some UnscoredWeight)
+    (cond (not (in_range z)) (Some WeightRange)
+    None))))
 
-abbrev pub is_kept : Rule → Bool
-is_kept Kept = true
-is_kept EmptyCluster = false
-is_kept UnknownState = false
-is_kept SpareBytes = false
-is_kept UnscoredWeight = false
-is_kept WeightRange = false
+abbrev pub is_kept : Option Rule → Bool
+is_kept None = true
+is_kept (Some u) = false
 
 unfoldable pub is_score : ℤ → ℕ → Bool
 is_score z s = is_state s && (not (unscored_weight z s) && in_range z)

@@ -2,7 +2,7 @@
 //     Reading         what reading gives
 //     read_record     twelve bytes to a record
 ghost use Rattle.std.specs.Prelude.{◌≡◌};
-ghost use Rattle.answers.specs.declared.refusal.Answer.TheVariants.{Refused};
+ghost use Rattle.std.specs.Prelude.{Err};
 ghost use Rattle.answers.specs.Outcome.{outcome_of};
 ghost use Rattle.cluster.specs.Reading.{reading_of, zero_record, read_record};
 
@@ -19,10 +19,10 @@ pub struct Reading {
 
 // A refused reading, whose record is all zero.
 fn not_read(refusal: Refusal) -> Reading
-    ensures { reading_of result ≡ outcome_of (Refused refusal) zero_record }
+    ensures { reading_of result ≡ outcome_of (Err refusal) zero_record }
 {
     Reading {
-        answer: Answer::Refused(refusal),
+        answer: Err(refusal),
         record: Record {
             cluster: 0,
             weight: 0,
@@ -42,7 +42,7 @@ pub fn read_record(bytes: &[u8]) -> Reading
     let rule = rule_of(record, has_spare(bytes));
     if is_kept(rule) {
         return Reading {
-            answer: Answer::Done(0),
+            answer: Ok(0),
             record,
         };
     }

@@ -10,7 +10,7 @@ ghost use Rattle.laws.specs.Limits.{narrow};
 ghost use Rattle.cluster.specs.Record.{record_bytes, record_of, row_in, has_spare, bytes_of};
 ghost use Rattle.cluster.specs.Rule.{broken_rule};
 
-use crate::bytes::{BYTE_VALUES, put_word, word_at};
+use crate::bytes::{put_word, word_at};
 use crate::rule::{Rule, broken_rule};
 use signed::{signed_of, unsigned_of};
 
@@ -20,8 +20,11 @@ pub const RECORD_BYTES: usize = 12;
 // Where the weight starts.
 const WEIGHT_AT: usize = 4;
 
-// Where the state stands; the spare bytes are the rest.
+// Where the state stands.
 const STATE_AT: usize = 8;
+
+// Where the spare bytes start, which are the rest.
+const SPARE_AT: usize = 9;
 
 // A cluster with its score: bit b of the cluster is taxon b, and a state of 0 says that the cluster is unscored.
 #[derive(Clone, Copy)]
@@ -31,12 +34,12 @@ pub struct Record {
     pub state: u8,
 }
 
-// Whether a spare byte of a record is set: the word that starts with the state reaches past its low byte.
+// Whether a spare byte of a record is set.
 pub(crate) fn has_spare(bytes: &[u8]) -> bool
     requires { length bytes.now ≡ record_bytes }
     ensures { result ≡ has_spare narrow bytes.now }
 {
-    BYTE_VALUES <= word_at(bytes, STATE_AT)
+    bytes[SPARE_AT..].iter().any(|&byte| byte != 0)
 }
 
 // The record that twelve bytes hold, whether or not it keeps the rules.
@@ -52,7 +55,7 @@ pub(crate) fn record_of(bytes: &[u8]) -> Record
 }
 
 // The rule that a record breaks first, `spare` being whether a spare byte is set beside it.
-pub(crate) fn rule_of(r: Record, spare: bool) -> Rule
+pub(crate) fn rule_of(r: Record, spare: bool) -> Option<Rule>
     ensures { result ≡ broken_rule r.cluster r.weight r.state spare }
 {
     broken_rule(r.cluster as u64, r.weight, r.state, spare)

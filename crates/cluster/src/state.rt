@@ -22,8 +22,5 @@ pub fn is_scored(state: u8) -> bool
 pub(crate) fn is_state(state: u8) -> bool
     ensures { result ≡ is_state state }
 {
-    if state == UNSCORED {
-        return true;
-    }
-    is_scored(state)
+    state == UNSCORED || is_scored(state)
 }

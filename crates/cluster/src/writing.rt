@@ -15,11 +15,11 @@ pub fn write_record(r: Record, room: &mut [u8]) -> Answer
 {
     let rule = rule_of(r, false);
     if !is_kept(rule) {
-        return Answer::Refused(Refusal::BadRecord(0));
+        return Err(Refusal::BadRecord(0));
     }
     if room.len() < RECORD_BYTES {
-        return Answer::Refused(Refusal::NoRoom);
+        return Err(Refusal::NoRoom);
     }
     put_record(r, room);
-    Answer::Done(RECORD_BYTES)
+    Ok(RECORD_BYTES)
 }

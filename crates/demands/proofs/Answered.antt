@@ -21,7 +21,7 @@ use Prim.Native.Nat.{ℕ, ◌≤◌}
 use lib.Dec.{T, ltb, ltb→lt, lt→ltb, T_not, not_T}
 use lib.ListN.{length}
 use Rattle.laws.proofs.Tests.{T-of-not}
-use Rattle.answers.specs.declared.refusal.Answer.TheVariants.{Done, Refused}
+use Rattle.std.specs.Prelude.{Ok, Err}
 use Rattle.answers.specs.declared.refusal.Refusal.{Refusal}
 use Rattle.answers.specs.declared.refusal.Refusal.TheVariants.{NoRoom}
 use Rattle.answers.specs.Refusal.{number_of, position_of, Sent, sent_of}
@@ -102,7 +102,7 @@ module _ (out room : List ℕ) where
 
 -- ---- what is kept to
 
-pub refusal_is : (f : Refusal) {n p : ℕ} → number_of f ≡ n → position_of f ≡ p → sent_of (Refused f) ≡ sent_back n p
+pub refusal_is : (f : Refusal) {n p : ℕ} → number_of f ≡ n → position_of f ≡ p → sent_of (Err f) ≡ sent_back n p
 refusal_is f a q = ap₂ sent_back a q
 
 module _ {A : Type 0} (rs : List Reason) (stays : A) (n : ℕ) (given : A) where
@@ -133,7 +133,7 @@ module _ {A : Type 0} (rs : List Reason) (stays : A) (n : ℕ) (given : A) where
           let k = (says.told m p).1 s in
           (refuses_iff rs stays n given k.0).1 k.1 ∙ refusal_is k.0 k.2 k.3
 
-      tells : (o : Option Refusal) → (end o).sent.number ≡ 0 → (end o).sent ≡ sent_of (Done n)
+      tells : (o : Option Refusal) → (end o).sent.number ≡ 0 → (end o).sent ≡ sent_of (Ok n)
       tells (some f) e = absurd (number_pos f e)
       tells none e = refl
 

@@ -3,12 +3,15 @@
 --     import_only      an import with the room afterwards
 --     one_outcome      the table of `specs/OneOutcome.antt`, crate by crate
 -- Assumes nothing.
-use mathlib.Core.Path.{ap₂}
+use mathlib.Core.Path.{◌≡◌, sym, ap, ap₂}
 use mathlib.Core.List.{List}
 use Prim.Native.Nat.{ℕ}
 use Rattle.laws.specs.Limits.{narrow}
 use Rattle.laws.proofs.Only.{value-only}
-use Rattle.answers.specs.declared.refusal.Answer.{Answer}
+use Rattle.std.specs.Prelude.{Ok, Err}
+use Rattle.answers.specs.declared.refusal.Refusal.{Refusal}
+use Rattle.answers.specs.Refusal.{Answer, sent_of}
+use Rattle.answers.proofs.Laws.Refusal.{number_pos}
 use Rattle.answers.specs.Outcome.{Outcome}
 use Rattle.answers.proofs.Laws.Outcome.{outcome_only}
 use Rattle.cluster.proofs.Theorems.{read_only}
@@ -17,8 +20,7 @@ use Rattle.members.proofs.Drawable.{drawn-only}
 use Rattle.table.proofs.Theorems.{build-only}
 use Rattle.table.proofs.Changing.RescoredTables.{rescore-only}
 use Rattle.drawing.proofs.Laws.Draw.{drawn_text-only}
-use Rattle.gel.specs.declared.importing.Import.{Import}
-use Rattle.gel.specs.Import.{Imported, import_of}
+use Rattle.gel.specs.Import.{Imported}
 use Rattle.demands.specs.OneOutcome.{Only, In, Imports, OneOutcome}
 
 -- an answer with the room afterwards, whatever the operation
@@ -27,10 +29,19 @@ room-only o x y p q =
     let e = outcome_only x.0 y.0 x.1 y.1 p q in
     ap₂ (λ (a : Answer) (l : List ℕ). (a, l)) e.0 e.1
 
+-- a success isn't a refusal
+apart : (n : ℕ) (f : Refusal) → ◌≡◌ {A = Answer} (Ok n) (Err f) → ⊥
+apart n f e = number_pos f (sym (ap (λ (a : Answer). (sent_of a).number) e))
+
 import_only : (o : Outcome Imported) → Only (Imports o)
-import_only o x y p q =
-    let e = outcome_only x.0.answer y.0.answer (import_of x.0 x.1).given (import_of y.0 y.1).given p q in
-    ap₂ (λ (a : Answer) (i : Imported). (record { answer = a; unread = i.unread }, i.room)) e.0 e.1
+import_only o (Ok x, room) (Ok y, left) p q =
+    let e = outcome_only (Ok x.records) (Ok y.records) _ _ p q in
+    ap₂ (λ (a : Answer) (i : Imported). (Ok (record { records = (sent_of a).told; unread = i.unread }), i.room)) e.0 e.1
+import_only o (Err f, room) (Err g, left) p q =
+    let e = outcome_only (Err f) (Err g) _ _ p q in let same = e.0 in let k : f ≡ g = cc in
+    ap₂ (λ (f : Refusal) (i : Imported). (Err f, i.room)) k e.1
+import_only o (Ok x, room) (Err g, left) p q = absurd (apart _ g (outcome_only (Ok x.records) (Err g) _ _ p q).0)
+import_only o (Err f, room) (Ok y, left) p q = absurd (apart _ f (sym (outcome_only (Err f) (Ok y.records) _ _ p q).0))
 
 pub one_outcome : OneOutcome
 one_outcome = record {

@@ -30,7 +30,7 @@ use Rattle.shapes.specs.Decimal.{decimal}
 use Rattle.shapes.specs.Shape.{Shape}
 use Rattle.shapes.specs.Text.{text_bytes}
 use Rattle.shapes.specs.Drawn.{ascending}
-use Rattle.answers.specs.declared.refusal.Answer.TheVariants.{Done}
+use Rattle.std.specs.Prelude.{Ok}
 use Rattle.answers.specs.Outcome.{outcome_of, put_into, written}
 use Rattle.cluster.specs.declared.record.Record.{Record}
 use Rattle.cluster.specs.Record.{record_bytes, row_in, record_of, bytes_of}
@@ -195,10 +195,10 @@ pub record Prints (d : ℕ) (l : List ℕ) : Type 0 where
 pub record RoundTrips : Type 0 where
   -- what is written, read again, is the record
   pub written_read : (r : Record) (room : List ℕ) → r.cluster < 2 ^ narrow.taxa → KeepsRecord r → record_bytes ≤ length room
-      → read_record (take record_bytes (write_record r room).given) ≡ outcome_of (Done 0) r
+      → read_record (take record_bytes (write_record r room).given) ≡ outcome_of (Ok 0) r
   -- what is read, written again, is the bytes
   pub read-written : (l room : List ℕ) → Bytes l → (read_record l).sent.number ≡ 0 → record_bytes ≤ length room
-      → write_record (read_record l).given room ≡ outcome_of (Done record_bytes) (l ++ drop record_bytes room)
+      → write_record (read_record l).given room ≡ outcome_of (Ok record_bytes) (l ++ drop record_bytes room)
 
 pub record Demand2 : Type 0 where
   pub rows_tell : (l : List ℕ) (d : ℕ) (xs : List Row) → AcceptedBytes narrow l → T (is_degree d)

@@ -6,7 +6,7 @@
 --     Imports o a     so for an import
 --     OneOutcome      the table, crate by crate
 -- Assumes nothing.
-use Rattle.std.specs.Prelude.{◌≡◌, Bool, List, [], ℕ, ◌+◌, ◌*◌, ℤ}
+use Rattle.std.specs.Prelude.{◌≡◌, Bool, List, [], ℕ, ◌+◌, ◌*◌, ℤ, Option, Result}
 use Rattle.std.specs.Int.{w32, w64}
 use Rattle.std.proofs.Common.{to_z, of_z}
 use Rattle.laws.specs.Cluster.{inside, strict, apart, single}
@@ -15,7 +15,7 @@ use Rattle.laws.specs.Limits.{narrow, word_values}
 use Rattle.laws.specs.State.{scored}
 use Rattle.trees.specs.Tree.{is_tree}
 use Rattle.shapes.specs.Decimal.{decimal}
-use Rattle.answers.specs.declared.refusal.Answer.{Answer}
+use Rattle.answers.specs.Refusal.{Answer}
 use Rattle.answers.specs.declared.refusal.Refusal.{Refusal}
 use Rattle.answers.specs.Refusal.{number_of, position_of, sent_of}
 use Rattle.answers.specs.Outcome.{Outcome, outcome_of, written}
@@ -60,7 +60,7 @@ abbrev pub In : Outcome (List ℕ) → Answer × List ℕ → Type 0
 In o a = outcome_of a.0 a.1 ≡ o
 
 -- an import, with the room afterwards
-abbrev pub Imports : Outcome Imported → Import × List ℕ → Type 0
+abbrev pub Imports : Outcome Imported → Result Import Refusal × List ℕ → Type 0
 Imports o a = import_of a.0 a.1 ≡ o
 
 pub record OneOutcome : Type 0 where
@@ -83,13 +83,13 @@ pub record OneOutcome : Type 0 where
   -- cluster
   pub is_scored : (state : ℕ) → Only (λ (r : Bool). r ≡ scored state)
   pub broken_rule : (cluster : ℕ) (weight : ℤ) (state : ℕ) (spare : Bool)
-      → Only (λ (rule : Rule). rule ≡ broken_rule cluster weight state spare)
+      → Only (λ (rule : Option Rule). rule ≡ broken_rule cluster weight state spare)
   pub is_score : (weight : ℤ) (state : ℕ) → Only (λ (b : Bool). b ≡ is_score weight state)
-  pub is_kept : (rule : Rule) → Only (λ (b : Bool). b ≡ is_kept rule)
+  pub is_kept : (rule : Option Rule) → Only (λ (b : Bool). b ≡ is_kept rule)
   pub read_record : (bytes : List ℕ) → Only (λ (r : Reading). reading_of r ≡ read_record bytes)
   pub write_record : (r : Record) (room : List ℕ) → Only (In (write_record r room))
   -- lists
-  pub read_list : (list : List ℕ) → Only (λ (r : Listing). listing_of r ≡ read_list narrow list)
+  pub read_list : (list : List ℕ) → Only (λ (r : Result Listing Refusal). listing_of r ≡ read_list narrow list)
   pub check_list : (list : List ℕ) → Only (λ (a : Answer). sent_of a ≡ (listing.read_list narrow list).sent)
   -- gel
   pub import_sheet : (sheet room : List ℕ) → Only (Imports (import_sheet sheet room))
@@ -101,7 +101,7 @@ pub record OneOutcome : Type 0 where
   pub is_marked : (low high i : ℕ) → Only (λ (b : Bool). b ≡ has_mark (low + word_values * high) i)
   -- members
   pub is_tree : (clusters : List ℕ) (top degree : ℕ) → Only (λ (r : Bool). r ≡ is_tree narrow.taxa degree top clusters)
-  pub drawn_tree : (t : Table) → Only (λ (r : Drawn). drawn_of r ≡ drawn_tree narrow t)
+  pub drawn_tree : (t : Table) → Only (λ (r : Result Drawn Refusal). drawn_of r ≡ drawn_tree narrow t)
   -- table
   pub build : (list : List ℕ) (degree : ℕ) → Only (λ (b : Built). outcome_of b.answer b.table ≡ build_table narrow list degree)
   pub rescore : (given : Table) (cluster : ℕ) (weight : ℤ) (state : ℕ)
@@ -113,7 +113,7 @@ pub record OneOutcome : Type 0 where
   pub put : (bytes room : List ℕ) → Only (In (written [] bytes room))
   -- drawing
   pub tree : (t : Table) (room : List ℕ) → Only (In (draw_tree narrow t room))
-  pub drawn_text : (t : Table) → Only (λ (r : DrawnText). drawn_text_of r ≡ drawn_text narrow t)
+  pub drawn_text : (t : Table) → Only (λ (r : Result DrawnText Refusal). drawn_text_of r ≡ drawn_text narrow t)
   pub text : (t : Table) (room : List ℕ) → Only (In (draw_text narrow t room))
   -- report
   pub line : (list : List ℕ) (degree : ℕ) (room : List ℕ) → Only (In (line_into list degree room))

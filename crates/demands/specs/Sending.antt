@@ -9,7 +9,7 @@
 --                         of s that applies, and leaves y
 -- Assumes nothing.
 use Rattle.std.specs.Prelude.{◌≡◌, ◌⊎◌, ◌≢◌, ◌↔◌, ℕ}
-use Rattle.answers.specs.declared.refusal.Answer.TheVariants.{Done}
+use Rattle.std.specs.Prelude.{Ok}
 use Rattle.answers.specs.Refusal.{Sent, sent_of}
 use Rattle.answers.specs.Outcome.{Outcome}
 
@@ -32,7 +32,7 @@ pub record Answered {A : Type 0} (o : Outcome A) (sends : Sending) (Taken : Type
   -- a success has the number 0
   pub taken : (o.sent.number ≡ 0) ↔ Taken
   -- it tells this number, and gives this
-  pub tells : o.sent.number ≡ 0 → o.sent ≡ sent_of (Done told)
+  pub tells : o.sent.number ≡ 0 → o.sent ≡ sent_of (Ok told)
   pub gives : o.sent.number ≡ 0 → o.given ≡ handed
   -- each refusal is sent back, with its position, exactly where it is the first that applies
   pub refused : (n p : ℕ) → n ≢ 0 → (o.sent ≡ sent_back n p) ↔ sends n p

@@ -19,7 +19,7 @@ use Rattle.laws.specs.Row.{Row}
 use Rattle.laws.specs.Widths.{WidthFacts}
 use Rattle.laws.proofs.Keep.{empty-or}
 use Rattle.laws.proofs.Tests.{T_true, T_false}
-use Rattle.answers.specs.declared.refusal.Answer.TheVariants.{Done, Refused}
+use Rattle.std.specs.Prelude.{Ok, Err}
 use Rattle.answers.specs.declared.refusal.Refusal.{Refusal}
 use Rattle.answers.specs.declared.refusal.Refusal.TheVariants.{NoTree}
 use Rattle.answers.specs.Reasons.{first_reason}
@@ -84,10 +84,10 @@ module _ (W : Width) (facts : WidthFacts W) (d : ℕ) (rs : List Row) (k : Build
   -- ---- what is drawn
 
   module _ (none-there : trees_of W d rs ≡ []) (l : List ℕ) where
-    pub draw_tree-none : draw_tree W (built_from W d rs) l ≡ outcome_of (Refused NoTree) l
+    pub draw_tree-none : draw_tree W (built_from W d rs) l ≡ outcome_of (Err NoTree) l
     draw_tree-none = sym (tree-refused W t l (no_trees none-there))
 
-    pub draw_text-none : draw_text W (built_from W d rs) l ≡ outcome_of (Refused NoTree) l
+    pub draw_text-none : draw_text W (built_from W d rs) l ≡ outcome_of (Err NoTree) l
     draw_text-none = sym (text-refused W t l (no_trees none-there))
 
   module _ (xs : List ℕ) (found : first_heaviest rs (trees_of W d rs) ≡ some xs) (l : List ℕ) where
@@ -107,13 +107,13 @@ module _ (W : Width) (facts : WidthFacts W) (d : ℕ) (rs : List Row) (k : Build
         (ap₂ text_of (members_back W facts d rs k xs found) (leaf_set_is W facts d rs k) ∙ text-reverse xs (leaves rs) tree_on_leaves)
 
     pub draw_tree-fits : list_max W ≤ length l → let out = ascending xs in
-        draw_tree W (built_from W d rs) l ≡ outcome_of (Done (length out)) (out ++ drop (length out) l)
+        draw_tree W (built_from W d rs) l ≡ outcome_of (Ok (length out)) (out ++ drop (length out) l)
     draw_tree-fits h =
         let short = list_length-le given (leaves rs) xs (is_tree_lem W facts d rs k xs found) in
         draw_tree_is ∙ written-whole [] (ascending xs) l refl (omega (arith, short))
 
     pub draw_text-fits : W.text_bytes ≤ length l → let out = text_of xs (leaves rs) in
-        draw_text W (built_from W d rs) l ≡ outcome_of (Done (length out)) (out ++ drop (length out) l)
+        draw_text W (built_from W d rs) l ≡ outcome_of (Ok (length out)) (out ++ drop (length out) l)
     draw_text-fits h =
         let tree = (listed W facts d rs k xs found).1 in
         let small = (given.sound (leaves rs) (tree.listed (leaves rs) tree.top)).1 in

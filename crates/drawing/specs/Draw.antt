@@ -4,14 +4,15 @@
 --     leaf_text t           the text of the members of the leaf set's row
 --     TextAt, no_text, text_at t     a row and a text; nothing drawn: all zero; what is drawn
 --     drawn_text W t        the text by value: a success tells its bytes
---     drawn_text_of r        the code's value as an outcome
+--     drawn_text_of r        the code's value or refusal as an outcome: the bytes of the text are told, and on a refusal all is zero
 --     draw_text W t l       what asking for the text gives, in the room l
 --     TextDrawn W t r      what is known of a text by value that isn't refused
 -- Assumes nothing.
-use Rattle.std.specs.Prelude.{◌≡◌, List, [], ℕ, length}
+use Rattle.std.specs.Prelude.{◌≡◌, List, [], ℕ, length, Result}
 use Rattle.std.proofs.Math.Option.{none}
 use Rattle.laws.specs.Limits.{Width}
-use Rattle.answers.specs.Outcome.{Outcome, outcome_of, ended, written}
+use Rattle.answers.specs.declared.refusal.Refusal.{Refusal}
+use Rattle.answers.specs.Outcome.{Outcome, result_of, ended, written}
 use Rattle.answers.specs.Reasons.{first_reason}
 use Rattle.shapes.specs.Drawn.{text_of}
 use Rattle.texts.specs.declared.text.Text.{Text}
@@ -42,8 +43,9 @@ text_at t = record { row = leaf_row t; text = holding (leaf_text t) }
 unfoldable pub drawn_text : Width → Table → Outcome TextAt
 drawn_text W t = ended (first_reason (draw_reasons W t)) no_text (length (leaf_text t)) (text_at t)
 
-abbrev pub drawn_text_of : DrawnText → Outcome TextAt
-drawn_text_of r = outcome_of r.answer (record { row = r.row; text = r.text })
+abbrev pub drawn_text_of : Result DrawnText Refusal → Outcome TextAt
+drawn_text_of =
+    result_of (λ (r : DrawnText). r.text.size) (λ (r : DrawnText). record { row = r.row; text = r.text }) no_text
 
 unfoldable pub draw_text : Width → Table → List ℕ → Outcome (List ℕ)
 draw_text W t l = written (draw_reasons W t) (leaf_text t) l

@@ -1,5 +1,4 @@
 // The text of a tree. Cites `specs/Drawn.antt` of `shapes`, and `specs/Gathered.antt`.
-//     larger_part    the larger of two clusters, if the second is a part with a taxon
 //     child_with     the child of a part that has a taxon
 //     add_comma      the comma before each child but the first
 //     add_part       one part: its taxon, or its children in order of their smallest taxon
@@ -17,42 +16,25 @@ ghost use Rattle.drawing.specs.Gathered.{comma_before};
 use cluster::{is_inside, is_single, is_strict, lowest};
 use texts::{Text, add, add_decimal, empty};
 
-// `k` where it is larger than `best`, lies strictly inside `part` and has the taxon of `bit`; else `best`.
-fn larger_part(best: u64, k: u64, part: u64, bit: u64) -> u64
-    ensures { result ≡ cond (strict k part && inside bit k) (max best k) best }
-{
-    if k <= best {
-        return best;
-    }
-    if !is_strict(k, part) {
-        return best;
-    }
-    if is_inside(bit, k) { k } else { best }
-}
-
 // The largest member strictly inside `part` that has `taxon`; 0 where there is none.
 fn child_with(xs: &[u64], part: u64, taxon: u32) -> u64
     requires { taxon < 64 }
     ensures { result ≡ child_with xs.now part taxon }
 {
     let bit = 1u64 << taxon;
-    let mut best = 0;
-    let mut i = 0;
-    while i < xs.len() {
-        best = larger_part(best, xs[i], part, bit);
-        i += 1;
-    }
-    best
+    xs.iter()
+        .copied()
+        .filter(|&k| is_strict(k, part) && is_inside(bit, k))
+        .max()
+        .unwrap_or(0)
 }
 
 // A comma, unless `left` is all of `part`, as before its first child.
+#[tactic(auto, using(texts::proofs::Laws::with_nil, std::proofs::lemmas::Bool::Decides::nat_tests))]
 fn add_comma(text: Text, part: u64, left: u64) -> Text
     ensures { result ≡ with_bytes text (comma_before part left) }
 {
-    if left == part {
-        return text;
-    }
-    add(text, b",")
+    if left == part { text } else { add(text, b",") }
 }
 
 // One part at the end of a text.
@@ -62,7 +44,7 @@ fn add_part(text: Text, xs: &[u64], part: u64) -> Text
     ensures { result ≡ with_bytes text (part_bytes xs.now part) }
 {
     if is_single(part) {
-        return add_decimal(text, lowest(part) as u64);
+        return add_decimal(text, u64::from(lowest(part)));
     }
     let mut longer = add(text, b"(");
     let mut left = part;

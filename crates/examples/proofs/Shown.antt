@@ -14,7 +14,7 @@ use Rattle.laws.specs.Lists.{every}
 use Rattle.laws.specs.Row.{Row}
 use Rattle.laws.proofs.Tests.{T_and, T_true, T_false}
 use Rattle.laws.proofs.Width.{narrow_facts}
-use Rattle.answers.specs.declared.refusal.Answer.TheVariants.{Done}
+use Rattle.std.specs.Prelude.{Ok}
 use Rattle.answers.specs.declared.refusal.Refusal.{Refusal}
 use Rattle.answers.specs.declared.refusal.Refusal.TheVariants.{NoTree}
 use Rattle.cluster.specs.Bytes.{byte_values}
@@ -65,7 +65,7 @@ bytes→ (x ∷ xs) h (suc i) = bytes→ xs (T_and (is_byte x) (every is_byte xs
 -- ---- the rescoring
 
 pub rescored_is : (x : Option Row) (t : Table) → T (is_fit narrow t) → T (takes x t)
-    → (rescored_by x t ≡ outcome_of (Done 0) (after x t)) × T (is_fit narrow (after x t))
+    → (rescored_by x t ≡ outcome_of (Ok 0) (after x t)) × T (is_fit narrow (after x t))
 rescored_is none t fit h = (refl, fit)
 rescored_is (some r) t fit h =
     let q = T_and (has_row t r.cluster) (is_score r.weight r.state) h in (

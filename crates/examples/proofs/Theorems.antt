@@ -13,7 +13,7 @@ use Rattle.laws.specs.Lists.{every}
 use Rattle.laws.proofs.Keep.{every→}
 use Rattle.laws.proofs.Tests.{T_and, T-of-not, true_T}
 use Rattle.laws.proofs.Width.{narrow_facts}
-use Rattle.answers.specs.declared.refusal.Answer.TheVariants.{Done}
+use Rattle.std.specs.Prelude.{Ok}
 use Rattle.answers.specs.Outcome.{Outcome}
 use Rattle.answers.specs.Reasons.{first_reason, NoneApplies}
 use Rattle.answers.specs.Refusal.{sent_of}
@@ -39,7 +39,7 @@ use Rattle.examples.proofs.Shown.{none→, bytes→, rescored_is, told→}
 -- ---- from the built table
 
 record Ends (c : Case) (t : Table) (u : Outcome Table) : Type 0 where
-  rescored : u.sent ≡ sent_of (Done 0)
+  rescored : u.sent ≡ sent_of (Ok 0)
   changed : Changes t u.given c.changed
   told : Told u.given c.ending
 

@@ -10,7 +10,7 @@ use Rattle.std.proofs.Math.Option.{Option, none, some}
 use Rattle.laws.specs.Limits.{narrow}
 use Rattle.laws.specs.Lists.{elem, bind}
 use Rattle.laws.specs.Row.{Row}
-use Rattle.answers.specs.declared.refusal.Answer.TheVariants.{Done}
+use Rattle.std.specs.Prelude.{Ok}
 use Rattle.answers.specs.Outcome.{Outcome, outcome_of}
 use Rattle.cluster.specs.Record.{bytes_of}
 use Rattle.answers.specs.Refusal.{sent_of}
@@ -26,7 +26,7 @@ list_of c = bind (bytes_of narrow) c.records
 
 -- ---- the tables of a case
 abbrev pub rescored_by : Option Row → Table → Outcome Table
-rescored_by none t = outcome_of (Done 0) t
+rescored_by none t = outcome_of (Ok 0) t
 rescored_by (some r) t = rescore_table narrow t r.cluster r.weight r.state
 
 abbrev pub built_of : Case → Outcome Table
@@ -39,7 +39,7 @@ abbrev pub Changes : Table → Table → List ℕ → Type 0
 Changes t u cs = (i : ℕ) → i < t.rows → (entry_at t i ≡ entry_at u i) ↔ T (not (elem (row_at t i).cluster cs))
 
 pub record Right (c : Case) : Type 0 where
-  pub built : (built_of c).sent ≡ sent_of (Done 0)
-  pub rescored : (end_of c).sent ≡ sent_of (Done 0)
+  pub built : (built_of c).sent ≡ sent_of (Ok 0)
+  pub rescored : (end_of c).sent ≡ sent_of (Ok 0)
   pub changed : Changes (built_of c).given (end_of c).given c.changed
   pub told : Told (end_of c).given c.ending

@@ -6,8 +6,7 @@ pub mod Formed
 -- one column
 pub mod Columns
 pub mod Ones
--- keys: in an array, counted, gathered, added, and those of a sheet
-pub mod Keys
+-- keys: counted, gathered, added, and those of a sheet
 pub mod Gathered
 pub mod Counted
 pub mod Adding

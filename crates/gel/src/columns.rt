@@ -1,48 +1,38 @@
 // A column of a gel sheet. Cites `specs/Columns.antt` and `specs/Form.antt`.
-//     Column        what a column stands for
-//     one_in        what a mark counts
-//     column_at     one column of a sheet
+//     one_in          what a mark counts
+//     Sheet::column   the cluster of a column
 ghost use Rattle.std.specs.Prelude.{◌≡◌, ◌<◌, T, eqb, cond};
 ghost use Rattle.gel.specs.Lines.{one};
-ghost use Rattle.gel.specs.Form.{is_bit, Formed, ColumnIs};
+ghost use Rattle.gel.specs.Columns.{column_at};
+ghost use Rattle.gel.specs.Form.{is_bit, read_of};
 
-use crate::lines::{NOUGHT, UNREAD};
-
-// The cluster of a column's ones, and 0; where it has a ?, no cluster, and 1.
-#[derive(Clone, Copy)]
-pub(crate) struct Column {
-    pub(crate) cluster: u64,
-    pub(crate) unread: usize,
-}
+use crate::lines::{NOUGHT, Sheet, UNREAD};
 
 // A 1 counts one, a 0 nothing.
 fn one_in(mark: u8) -> u64
     requires { T (is_bit mark) }
     ensures { result ≡ cond (eqb mark one) 1 0 }
 {
-    mark as u64 - NOUGHT as u64
+    u64::from(mark) - u64::from(NOUGHT)
 }
 
-// Column `j` of a sheet of so many lines of one width. It is read from the last line up: each line doubles the cluster of those beneath
-// it, and no taxon is kept beside it.
-pub(crate) fn column_at(sheet: &[u8], lines: usize, width: usize, j: usize) -> Column
-    requires { Formed sheet.now lines width × (j < width) }
-    ensures { ColumnIs sheet.now j result }
-{
-    let mut cluster = 0;
-    let mut at = lines * (width + 1) + j;
-    let mut i = lines;
-    while 0 < i {
-        at -= width + 1;
-        let mark = sheet[at];
-        if mark == UNREAD {
-            return Column {
-                cluster: 0,
-                unread: 1,
-            };
+impl Sheet<'_> {
+    // The cluster of the ones of column `j`; none where it has a ?. It is read from the last line up: each line doubles the cluster of those
+    // beneath it, and no taxon is kept beside it.
+    pub(crate) fn column(&self, j: usize) -> Option<u64>
+        requires { j < self.now.width }
+        ensures { result ≡ read_of (column_at self.now.bytes.now j) }
+    {
+        let mut cluster = 0;
+        let mut at = self.bytes.len() + j;
+        for _ in 0..self.lines {
+            at -= self.width + 1;
+            let mark = self.bytes[at];
+            if mark == UNREAD {
+                return None;
+            }
+            cluster = 2 * cluster + one_in(mark);
         }
-        cluster = 2 * cluster + one_in(mark);
-        i -= 1;
+        Some(cluster)
     }
-    Column { cluster, unread: 0 }
 }

@@ -4,11 +4,19 @@
 // the sheet goes by the bytes that came.
 #![tactic(auto)]
 
-use answers::Answer;
+use answers::Refusal;
 use cluster::RECORD_BYTES;
-use gel::import_sheet;
+use gel::{Import, import_sheet};
 use input::read_input;
 use report::sheet_line;
+use std::io;
+use texts::Text;
+
+// One byte more than the longest sheet, so that a longer one is seen.
+const INPUT_CAP: usize = 4129;
+
+// The bytes of the longest list.
+const LIST_CAP: usize = 1536;
 
 // Says a text; where that can't be written, nothing is left to be done.
 fn tell(to: &impl Print, text: &[u8]) {
@@ -16,33 +24,30 @@ fn tell(to: &impl Print, text: &[u8]) {
 }
 
 // Says what came of a sheet.
-fn tell_import(to: &impl Print, answer: Answer, unread: usize) {
-    let text = sheet_line(answer, unread);
-    let bytes = text.bytes;
-    tell(to, &bytes[..text.size]);
+fn tell_import(to: &impl Print, import: Result<Import, Refusal>) {
+    let unread = import.map_or(0, |import| import.unread);
+    let Text { bytes, size } = sheet_line(import.map(|import| import.records), unread);
+    tell(to, &bytes[..size]);
 }
 
-// Says what came of a sheet to `said`, and writes the list that is made of it to `made`; false where that can't be written.
-fn write_list(said: &impl Print, made: &impl Print, sheet: &[u8]) -> bool {
-    let mut room = [0u8; 1536];
+// Says what came of a sheet to `said`, and writes the list that is made of it to `made`.
+fn write_list(said: &impl Print, made: &impl Print, sheet: &[u8]) -> io::Result<()> {
+    let mut room = [0u8; LIST_CAP];
     let import = import_sheet(sheet, &mut room);
-    let answer = import.answer;
-    tell_import(said, answer, import.unread);
-    if let Answer::Done(records) = answer {
-        return made.write_all(&room[..records * RECORD_BYTES]).is_ok();
+    tell_import(said, import);
+    match import {
+        Ok(import) => made.write_all(&room[..import.records * RECORD_BYTES]),
+        Err(_) => Ok(()),
     }
-    true
 }
 
 fn main(rt: HostRuntime) {
-    // one byte more than the longest sheet, so that a longer one is seen
-    let mut buffer = [0u8; 4129];
+    let mut buffer = [0u8; INPUT_CAP];
     let sheet = read_input(&mut rt.stdin(), &mut buffer);
-    let n = sheet.count;
     if !sheet.is_read {
         tell(&rt.stderr(), b"gelsheet: standard input can't be read\n");
     }
-    if !write_list(&rt.stderr(), &rt.stdout(), &buffer[..n]) {
+    if write_list(&rt.stderr(), &rt.stdout(), &buffer[..sheet.count]).is_err() {
         tell(
             &rt.stderr(),
             b"gelsheet: standard output can't be written\n",

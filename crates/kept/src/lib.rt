@@ -7,7 +7,7 @@
 //     COUNT_MAX, ..             the rules' limits that the crates above compare with too
 #![tactic(auto)]
 
-mod blank;
+mod fields;
 mod fitness;
 mod limits;
 mod marks;

@@ -7,6 +7,7 @@ ghost use Rattle.kept.specs.View.{zero_table};
 // Row i of the table is element i of each array. Bit j of `members_low[i]` is the mark of row j in row i for j below 64, and bit j - 64 of
 // `members_high[i]` for the others. Clusters and counts have 64 bits so that a wider table needs no other code; fitness
 // holds them to 32.
+// Parallel arrays and no array of rows: this form of the table is given (`docs/DECISIONS.md`, "Forms").
 #[derive(Clone, Copy)]
 pub struct Table {
     pub rows: usize,
@@ -22,7 +23,7 @@ pub struct Table {
     pub degree: u32,
 }
 
-// The table that is all zero: what a refused build hands back.
+// The table that is all zero: what a refused build hands back. Repeated arrays and no `Default`: this form is given too.
 pub fn zero_table() -> Table
     ensures { result ≡ zero_table }
 {

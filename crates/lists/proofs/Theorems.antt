@@ -12,7 +12,7 @@
 --                                   are the scored ones, in their order, and it is accepted where there is one
 --     list_only, check_only         one outcome of `read_list`, and of `check_list`
 -- Assumes nothing.
-use mathlib.Core.Path.{◌≡◌, sym, ap, ap₂, ◌∙◌, subst}
+use mathlib.Core.Path.{◌≡◌, sym, ap, ◌∙◌, subst}
 use mathlib.Core.Logic.{◌↔◌}
 use mathlib.Core.List.{List, []}
 use mathlib.Core.List.{Memᴰ as Mem}
@@ -27,14 +27,14 @@ use Rattle.laws.specs.Orders.{Falling}
 use Rattle.laws.specs.Row.{Row}
 use Rattle.laws.specs.Widths.{WidthFacts}
 use Rattle.laws.proofs.Tests.{T-of-not}
-use Rattle.answers.specs.declared.refusal.Answer.{Answer}
-use Rattle.answers.specs.declared.refusal.Answer.TheVariants.{Done, Refused}
+use Rattle.answers.specs.Refusal.{Answer}
+use Rattle.std.specs.Prelude.{Result, Ok, Err}
 use Rattle.answers.specs.declared.refusal.Refusal.{Refusal}
 use Rattle.answers.specs.Outcome.{Outcome, outcome_of}
 use Rattle.answers.specs.Reasons.{First, NoneApplies}
 use Rattle.answers.specs.Refusal.{sent_of}
 use Rattle.cluster.specs.Rule.{keeps_rules}
-use Rattle.answers.proofs.Laws.Outcome.{outcome_only}
+use Rattle.answers.proofs.Laws.Outcome.{result_only}
 use Rattle.answers.proofs.Laws.Outcome as outcome
 use Rattle.answers.proofs.Laws.Reasons.{none_iff}
 use Rattle.answers.proofs.Laws.Refusal.{sent_of_inj}
@@ -84,23 +84,21 @@ module _ (W : Width) (l : List ℕ) where
       let number = ap (λ (o : Outcome Listed). o.sent.number) (read_list_is W l) in
       (λ e. accepted_iff.0 (by.0 (sym number ∙ e)), λ a. number ∙ by.1 (accepted_iff.1 a))
 
-  pub refuses_iff : (f : Refusal) → ((read_list W l).sent ≡ sent_of (Refused f)) ↔ First (list_reasons W l) f
+  pub refuses_iff : (f : Refusal) → ((read_list W l).sent ≡ sent_of (Err f)) ↔ First (list_reasons W l) f
   refuses_iff f =
       let by = outcome.refuses_iff (list_reasons W l) (listed []) 0 (listed (rows_of W l)) f in
       let sent = ap (λ (o : Outcome Listed). o.sent) (read_list_is W l) in
       (λ e. by.0 (sym sent ∙ e), λ h. sent ∙ by.1 h)
 
-  pub read-accepted : Accepted W l → read_list W l ≡ outcome_of (Done 0) (listed (rows_of W l))
+  pub read-accepted : Accepted W l → read_list W l ≡ outcome_of (Ok 0) (listed (rows_of W l))
   read-accepted a =
       read_list_is W l ∙ ended_by W l (list_reasons W l) ((none_iff (list_reasons W l)).1 (accepted_iff.1 a))
 
   -- ---- one outcome
-  pub list_only : (x y : Listing) → listing_of x ≡ read_list W l → listing_of y ≡ read_list W l → x ≡ y
-  list_only x y p q =
-      let e = outcome_only x.answer y.answer (listing_of x).given (listing_of y).given p q in
-      ap₂ (λ (a : Answer) (s : Listed).
-      record { answer = a; rows = s.rows; clusters = s.clusters; weights = s.weights; states = s.states })
-      e.0 e.1
+  pub list_only : (x y : Result Listing Refusal) → listing_of x ≡ read_list W l → listing_of y ≡ read_list W l → x ≡ y
+  list_only =
+      result_only (λ (r : Listing). 0) (λ (r : Listing). (listing_of (Ok r)).given) (listed [])
+      (λ x y _ e. ap (λ (s : Listed). record { rows = s.rows; clusters = s.clusters; weights = s.weights; states = s.states }) e)
 
   pub check_only : (a b : Answer) → sent_of a ≡ (read_list W l).sent → sent_of b ≡ (read_list W l).sent → a ≡ b
   check_only a b p q = sent_of_inj a b (p ∙ sym q)
@@ -154,4 +152,4 @@ module _ (W : Width) (l m : List ℕ) (a : Accepted W l) (b : Accepted W m) (the
 
   pub read_of_records : read_list W l ≡ read_list W m
   read_of_records =
-      read-accepted W l a ∙ ap (λ (rs : List Row). outcome_of (Done 0) (listed rs)) rows_of-records ∙ sym (read-accepted W m b)
+      read-accepted W l a ∙ ap (λ (rs : List Row). outcome_of (Ok 0) (listed rs)) rows_of-records ∙ sym (read-accepted W m b)

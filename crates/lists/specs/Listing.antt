@@ -3,16 +3,17 @@
 --     record_reasons W l      why a list of whole records is refused: 5, then 6; 5 over all records before 6
 --     list_reasons W l        why a list is refused: 1, 3, 2, 5, 6 in that order
 --     Listed, listed rs      rows in ascending order in arrays with room for 128, and how many; zero past them
---     listing_of r            the code's listing as an outcome
+--     listing_of r            the code's listing or refusal as an outcome: on a refusal there are no rows
 --     list_ended W l rs       refused by the first of these reasons: no rows; where none applies, the rows of the list l
 --     read_list W l           what reading the list l gives
 -- Assumes nothing.
-use Rattle.std.specs.Prelude.{not, List, [], ◌∷◌, ℕ, ◌%◌, eqb, ltb, ℤ, pos, length}
+use Rattle.std.specs.Prelude.{not, List, [], ◌∷◌, ℕ, ◌%◌, eqb, ltb, ℤ, pos, length, Result}
 use Rattle.laws.specs.Column.{column}
 use Rattle.laws.specs.Limits.{Width}
 use Rattle.laws.specs.Row.{Row}
+use Rattle.answers.specs.declared.refusal.Refusal.{Refusal}
 use Rattle.answers.specs.declared.refusal.Refusal.TheVariants.{NoBytes, WrongLength, TooLong, BadRecord, Repeated}
-use Rattle.answers.specs.Outcome.{Outcome, outcome_of, ended}
+use Rattle.answers.specs.Outcome.{Outcome, result_of, ended}
 use Rattle.answers.specs.Reasons.{Reason, when, first_reason}
 use Rattle.lists.specs.declared.listing.Listing.{Listing}
 use Rattle.lists.specs.Records.{records_in, rows_of, first_bad, first_repeat}
@@ -47,9 +48,11 @@ listed rs = record {
   states = column 0 (λ (r : Row). r.state) rs;
 }
 
-abbrev pub listing_of : Listing → Outcome Listed
-listing_of r =
-    outcome_of r.answer (record { rows = r.rows; clusters = r.clusters; weights = r.weights; states = r.states })
+abbrev pub listing_of : Result Listing Refusal → Outcome Listed
+listing_of =
+    result_of (λ (r : Listing). 0)
+    (λ (r : Listing). record { rows = r.rows; clusters = r.clusters; weights = r.weights; states = r.states })
+    (listed [])
 
 -- ---- the outcome
 abbrev pub list_ended : Width → List ℕ → List Reason → Outcome Listed

@@ -1,5 +1,5 @@
 -- What is known where something is drawn of a table, for the crates that draw it: `specs/Drawable.antt`.
---     drawn-only          one outcome of `drawn_tree`: the answer, the row, every number of the array, and how many
+--     drawn-only          one outcome of `drawn_tree`: a refusal, or the row, every number of the array, and how many
 --     drawn-refused       what `drawn_tree` refuses is the first reason that applies
 --     drawable            where no reason applies, what `Drawable` says of the table
 --     drawn_done          where `drawn_tree` succeeds, what `Success` says of its value
@@ -7,19 +7,17 @@
 use mathlib.Core.Path.{◌≡◌, refl, sym, ap, ap₂, ◌∙◌}
 use mathlib.Core.Bool.{◌&&◌}
 use mathlib.Core.Option.{none, some}
-use Prim.Native.Nat.{ℕ}
 use native.Mathlib.Nat.{le_trans}
 use lib.ListN.{take}
 use Rattle.laws.specs.Limits.{Width}
 use Rattle.laws.specs.Widths.{WidthFacts}
 use Rattle.laws.proofs.Tests.{T_and, T_true, T-of-not}
-use Rattle.answers.specs.declared.refusal.Answer.{Answer}
-use Rattle.answers.specs.declared.refusal.Answer.TheVariants.{Done, Refused}
+use Rattle.std.specs.Prelude.{Result, Ok, Err}
 use Rattle.answers.specs.declared.refusal.Refusal.{Refusal}
-use Rattle.answers.specs.Outcome.{Outcome, outcome_of, ended}
+use Rattle.answers.specs.Outcome.{Outcome, ended}
 use Rattle.answers.specs.Reasons.{first_reason}
 use Rattle.answers.proofs.Laws.Reasons.{none_iff}
-use Rattle.answers.proofs.Laws.Outcome.{outcome_only, ended-refused, ended_done}
+use Rattle.answers.proofs.Laws.Outcome.{result_only, ended-refused, ended_done}
 use Rattle.kept.specs.declared.table.Table.{Table}
 use Rattle.kept.specs.Fit.{is_fit}
 use Rattle.kept.specs.Rows.{leaf_set}
@@ -68,22 +66,22 @@ module _ (W : Width) (t : Table) where
   abbrev given : Drawn → DrawnMembers
   given r = record { row = r.row; clusters = r.clusters; size = r.size }
 
-  answered : (r : Drawn) {a : Answer} → drawn_of r ≡ drawn_tree W t → r.answer ≡ a → ends ≡ outcome_of a (given r)
-  answered r p e = sym (sym (ap (λ (a : Answer). outcome_of a (given r)) e) ∙ p ∙ drawn_is)
+  answered : {r s : Result Drawn Refusal} → drawn_of r ≡ drawn_tree W t → r ≡ s → ends ≡ drawn_of s
+  answered p e = sym drawn_is ∙ sym p ∙ ap drawn_of e
 
-  pub drawn-only : (x y : Drawn) → drawn_of x ≡ drawn_tree W t → drawn_of y ≡ drawn_tree W t → x ≡ y
-  drawn-only x y p q =
-      let e = outcome_only x.answer y.answer (given x) (given y) p q in
-      ap₂ (λ (a : Answer) (m : DrawnMembers). record { answer = a; row = m.row; clusters = m.clusters; size = m.size }) e.0 e.1
+  pub drawn-only : (x y : Result Drawn Refusal) → drawn_of x ≡ drawn_tree W t → drawn_of y ≡ drawn_tree W t → x ≡ y
+  drawn-only =
+      result_only (λ (r : Drawn). 0) given no_members
+      (λ x y _ e. ap (λ (m : DrawnMembers). record { row = m.row; clusters = m.clusters; size = m.size }) e)
 
-  pub drawn-refused : {r : Drawn} {f : Refusal} → drawn_of r ≡ drawn_tree W t → r.answer ≡ Refused f
+  pub drawn-refused : {r : Result Drawn Refusal} {f : Refusal} → drawn_of r ≡ drawn_tree W t → r ≡ Err f
       → first_reason (draw_reasons W t) ≡ some f
   drawn-refused {r} {f} p h =
-      (ended-refused (first_reason (draw_reasons W t)) no_members 0 (drawn_members t) f (given r) (answered r p h)).0
+      (ended-refused (first_reason (draw_reasons W t)) no_members 0 (drawn_members t) f no_members (answered p h)).0
 
-  pub drawn_done : WidthFacts W → {r : Drawn} {n : ℕ} → drawn_of r ≡ drawn_tree W t → r.answer ≡ Done n → Success W t r
-  drawn_done facts {r} {n} p h =
-      let q = ended_done (first_reason (draw_reasons W t)) no_members 0 (drawn_members t) n (given r) (answered r p h) in
+  pub drawn_done : WidthFacts W → {r : Result Drawn Refusal} {d : Drawn} → drawn_of r ≡ drawn_tree W t → r ≡ Ok d → Success W t d
+  drawn_done facts {r} {d} p h =
+      let q = ended_done (first_reason (draw_reasons W t)) no_members 0 (drawn_members t) 0 (given d) (answered p h) in
       let size = ap (λ (m : DrawnMembers). m.size) q.1 in
       let clusters = ap (λ (m : DrawnMembers). m.clusters) q.1 in record {
         unrefused = q.0;

@@ -1,9 +1,10 @@
 -- What the private functions cite; no public promise does.
 --     weight_span                    how far from zero a weight of 32 bits can be
---     Gathered cs ws ss m n r       r has those of the first n rows that are marked in m, which are few and whose weight is near zero
+--     Gathered t m n r              r has those of the first n rows of t that are marked in m, which are scored and few, and whose weight is
+--                                   near zero
 --     Found W t c i                 the table is fit, c is its leaf set, i the row of that, and there is a tree on it
 -- Assumes nothing.
-use Rattle.std.specs.Prelude.{◌≡◌, true, List, ℕ, ◌*◌, ◌^◌, ◌≤◌, ◌<◌, ℤ, nat_abs, length}
+use Rattle.std.specs.Prelude.{◌≡◌, true, ℕ, ◌*◌, ◌^◌, ◌≤◌, ◌<◌, nat_abs, length}
 use Rattle.laws.specs.Limits.{Width, row_cap}
 use Rattle.kept.specs.declared.table.Table.{Table}
 use Rattle.kept.specs.Fit.{is_fit}
@@ -15,13 +16,13 @@ use Rattle.members.specs.Draw.{leaf_row, has_tree}
 abbrev pub weight_span : ℕ
 weight_span = 2 ^ 31
 
-pub record Gathered (cs : List ℕ) (ws : List ℤ) (ss : List ℕ) (m n : ℕ) (r : Members) : Type 0 where
+pub record Gathered (t : Table) (m n : ℕ) (r : Members) : Type 0 where
   pub size : r.size ≡ length (marked_to m n)
   pub few : r.size ≤ n
-  pub clusters : r.clusters ≡ members_in cs (marked_to m n)
-  pub weight : r.weight ≡ weight_to ws m n
-  pub near : nat_abs (weight_to ws m n) ≤ weight_span * n
-  pub scored : r.scored ≡ scored_to ss m n
+  pub clusters : r.clusters ≡ members_in t.clusters (marked_to m n)
+  pub weight : r.weight ≡ weight_to t.weights m n
+  pub near : nat_abs (weight_to t.weights m n) ≤ weight_span * n
+  pub scored : scored_to t.states m n ≡ true
 
 pub record Found (W : Width) (t : Table) (c i : ℕ) : Type 0 where
   pub fit : is_fit W t ≡ true

@@ -1,51 +1,43 @@
 // The marked rows of a table. Cites `specs/Marked.antt`, and `specs/Gathered.antt` for what is gathered.
-//     Members        the marked rows: clusters, weight, and whether each is scored
-//     members_of     the marked rows, gathered
-ghost use Rattle.std.specs.Prelude.{◌+◌, ◌*◌, ◌≤◌};
+//     Members        the marked rows: clusters and weight
+//     members_of     the marked rows, gathered, where each is scored
+ghost use Rattle.std.specs.Prelude.{◌≡◌, false, ◌+◌, ◌*◌, ◌≤◌, MatchOption};
 ghost use Rattle.laws.specs.Limits.{row_cap, word_values};
+ghost use Rattle.members.specs.Marked.{scored_to};
 ghost use Rattle.members.specs.Gathered.{Gathered};
 
 use cluster::is_scored;
-use kept::is_marked;
+use kept::{Table, is_marked};
 
-// The marked rows: their clusters are the first `size`, ascending, and the others are zero; their weights added up; whether each is scored.
+// The marked rows: their clusters are the first `size`, ascending, and the others are zero; their weights added up.
+// An array and how much of it is used, as in `Drawn`: a list that grows would allocate, and what allocates can fail.
 #[derive(Clone, Copy)]
 pub(crate) struct Members {
     pub(crate) clusters: [u64; 128],
     pub(crate) size: usize,
     pub(crate) weight: i64,
-    pub(crate) scored: bool,
 }
 
-// The marked ones of the first `rows` rows.
-pub(crate) fn members_of<'a>(
-    clusters: &'a [u64; 128],
-    weights: &'a [i32; 128],
-    states: &'a [u8; 128],
-    low: u64,
-    high: u64,
-    rows: usize,
-) -> Members
-    requires { rows ≤ row_cap }
-    ensures { Gathered clusters.now weights.now states.now (low + word_values * high) rows result }
+// The marked rows of a table, or none where one of them is unscored.
+pub(crate) fn members_of(t: &Table, low: u64, high: u64) -> Option<Members>
+    requires { t.now.rows ≤ row_cap }
+    ensures { let marks = low + word_values * high in
+        MatchOption result (scored_to t.now.states marks t.now.rows ≡ false) (λ r. Gathered t.now marks t.now.rows r) }
 {
     let mut members = Members {
         clusters: [0; 128],
         size: 0,
         weight: 0,
-        scored: true,
     };
-    let mut i = 0;
-    while i < rows {
+    for i in 0..t.rows {
         if is_marked(low, high, i) {
-            members.clusters[members.size] = clusters[i];
-            members.size += 1;
-            members.weight += weights[i] as i64;
-            if !is_scored(states[i]) {
-                members.scored = false;
+            if !is_scored(t.states[i]) {
+                return None;
             }
+            members.clusters[members.size] = t.clusters[i];
+            members.size += 1;
+            members.weight += i64::from(t.weights[i]);
         }
-        i += 1;
     }
-    members
+    Some(members)
 }

@@ -1,10 +1,11 @@
 // Whether a set of clusters is a tree. Cites `specs/Tree.antt` of the crate `trees`.
-//     has              whether a cluster is in the set
+//     is_nested        whether two clusters are nested or apart
 //     has_taxa         whether the set has each taxon of a cluster
+//     nests            whether all are nested in or apart from one
 //     are_nested       whether all are inside one, and any two nested or apart
+//     has_between      whether one lies strictly between two
 //     child_count      how many children a member has
 //     are_few          whether no member of two or more taxa has too many
-//     most_children    how many children the degree bound allows
 //     is_tree          all of it
 ghost use Rattle.std.specs.Prelude.{◌≡◌, not, ◌&&◌, ◌||◌, ◌-◌, leb, length};
 ghost use Rattle.laws.specs.Cluster.{inside, strict, nested, single, taxa};
@@ -21,152 +22,64 @@ const TAXA: u32 = 32;
 fn is_nested(a: u64, b: u64) -> bool
     ensures { result ≡ nested a b }
 {
-    if is_inside(a, b) {
-        return true;
-    }
-    if is_inside(b, a) {
-        return true;
-    }
-    is_apart(a, b)
-}
-
-// Whether `c` is one of them.
-fn has(xs: &[u64], c: u64) -> bool
-    ensures { result ≡ elem c xs.now }
-{
-    let mut i = 0;
-    while i < xs.len() {
-        if xs[i] == c {
-            return true;
-        }
-        i += 1;
-    }
-    false
+    is_inside(a, b) || is_inside(b, a) || is_apart(a, b)
 }
 
 // Whether each single taxon of `c` is one of them.
 fn has_taxa(xs: &[u64], c: u64) -> bool
     ensures { result ≡ every (λ u. not (inside u c) || elem u xs.now) (taxa narrow.taxa) }
 {
-    let mut taxon = 0;
-    while taxon < TAXA {
-        let u = 1u64 << taxon;
-        if is_inside(u, c) {
-            if !has(xs, u) {
-                return false;
-            }
-        }
-        taxon += 1;
-    }
-    true
+    (0..TAXA)
+        .map(|taxon| 1u64 << taxon)
+        .all(|u| !is_inside(u, c) || xs.contains(&u))
 }
 
 // Whether each is nested in or apart from `a`.
 fn nests(xs: &[u64], a: u64) -> bool
     ensures { result ≡ every (λ b. nested a b) xs.now }
 {
-    let mut i = 0;
-    while i < xs.len() {
-        if !is_nested(a, xs[i]) {
-            return false;
-        }
-        i += 1;
-    }
-    true
+    xs.iter().all(|&b| is_nested(a, b))
 }
 
 // Whether all are inside `c`, and any two are nested or apart.
 fn are_nested(xs: &[u64], c: u64) -> bool
     ensures { result ≡ every (λ a. inside a c && every (λ b. nested a b) xs.now) xs.now }
 {
-    let mut i = 0;
-    while i < xs.len() {
-        let a = xs[i];
-        if !is_inside(a, c) {
-            return false;
-        }
-        if !nests(xs, a) {
-            return false;
-        }
-        i += 1;
-    }
-    true
+    xs.iter().all(|&a| is_inside(a, c) && nests(xs, a))
 }
 
 // Whether one of them lies strictly between `k` and `m`.
 fn has_between(xs: &[u64], k: u64, m: u64) -> bool
     ensures { result ≡ any (λ l. strict l m && strict k l) xs.now }
 {
-    let mut i = 0;
-    while i < xs.len() {
-        let l = xs[i];
-        if is_strict(l, m) {
-            if is_strict(k, l) {
-                return true;
-            }
-        }
-        i += 1;
-    }
-    false
+    xs.iter().any(|&l| is_strict(l, m) && is_strict(k, l))
 }
 
 // How many children `m` has among them.
 fn child_count(xs: &[u64], m: u64) -> usize
     ensures { result ≡ length (children xs.now m) }
 {
-    let mut count = 0;
-    let mut i = 0;
-    while i < xs.len() {
-        let k = xs[i];
-        if is_strict(k, m) {
-            if !has_between(xs, k, m) {
-                count += 1;
-            }
-        }
-        i += 1;
-    }
-    count
+    xs.iter()
+        .filter(|&&k| is_strict(k, m) && !has_between(xs, k, m))
+        .count()
 }
 
-// Whether each of two or more taxa has at most `most` children.
-fn are_few(xs: &[u64], most: usize) -> bool
-    ensures { result ≡ every (λ m. single m || leb (length (children xs.now m)) most) xs.now }
+// Whether each of two or more taxa has fewer children than the degree bound, of which 0 allows none either.
+fn are_few(xs: &[u64], degree: u32) -> bool
+    ensures { result ≡ every (λ m. single m || leb (length (children xs.now m)) (degree - 1)) xs.now }
 {
-    let mut i = 0;
-    while i < xs.len() {
-        let m = xs[i];
-        if !is_single(m) {
-            if most < child_count(xs, m) {
-                return false;
-            }
-        }
-        i += 1;
-    }
-    true
-}
-
-// How many children the degree bound allows: no degree bound allows none.
-fn most_children(degree: u32) -> usize
-    ensures { result ≡ degree - 1 }
-{
-    if degree == 0 {
-        return 0;
-    }
-    (degree - 1) as usize
+    let most = degree.saturating_sub(1) as usize;
+    xs.iter()
+        .all(|&m| is_single(m) || child_count(xs, m) <= most)
 }
 
 // Whether the clusters are a tree on `top` for the degree bound, whatever they are.
+#[tactic(auto, using(crate::proofs::Laws::TreeTest::is_tree_by))]
 pub fn is_tree(clusters: &[u64], top: u64, degree: u32) -> bool
     ensures { result ≡ is_tree narrow.taxa degree top clusters.now }
 {
-    if !are_nested(clusters, top) {
-        return false;
-    }
-    if !has(clusters, top) {
-        return false;
-    }
-    if !has_taxa(clusters, top) {
-        return false;
-    }
-    are_few(clusters, most_children(degree))
+    are_nested(clusters, top)
+        && clusters.contains(&top)
+        && has_taxa(clusters, top)
+        && are_few(clusters, degree)
 }

@@ -9,86 +9,82 @@
 
 mod drawings;
 mod layout;
-mod numbers;
 mod records;
 mod sheets;
 mod stream;
 mod tables;
 
 use drawings::{answer_line, answer_text, answer_tree, answer_whole};
-use layout::read_table;
 use records::{answer_read, answer_write};
 use sheets::answer_sheet;
-use stream::{fill, read_list, write};
+use stream::{read_array, write};
 use tables::{answer_build, answer_fit, answer_rescore};
 
-// Answers a case of operations 4 to 7, which starts with a table.
-fn answer_table(rt: &HostRuntime, operation: u8) -> bool {
-    let given = read_table(rt);
-    if !given.is_whole {
-        return false;
-    }
-    match operation {
-        4 => answer_rescore(rt, given.table),
-        5 => answer_fit(rt, given.table),
-        6 => answer_tree(rt, given.table),
-        _ => answer_text(rt, given.table),
+// What a case asks for.
+#[derive(Clone, Copy)]
+enum Operation {
+    ReadRecord,
+    WriteRecord,
+    Build,
+    Rescore,
+    Fit,
+    Tree,
+    Text,
+    Line,
+    Whole,
+    Sheet,
+}
+
+impl Operation {
+    // The operation that the first byte of a case names.
+    fn named_by(byte: u8) -> Option<Operation> {
+        match byte {
+            1 => Some(Operation::ReadRecord),
+            2 => Some(Operation::WriteRecord),
+            3 => Some(Operation::Build),
+            4 => Some(Operation::Rescore),
+            5 => Some(Operation::Fit),
+            6 => Some(Operation::Tree),
+            7 => Some(Operation::Text),
+            8 => Some(Operation::Line),
+            9 => Some(Operation::Whole),
+            10 => Some(Operation::Sheet),
+            _ => None,
+        }
     }
 }
 
-// Answers what follows the list.
-fn answer_listed(rt: &HostRuntime, operation: u8, list: &[u8], degree: u32) -> bool {
-    match operation {
-        3 => answer_build(rt, list, degree),
-        8 => answer_line(rt, list, degree),
-        _ => answer_whole(rt, list, degree),
+// Answers a case that starts with the byte; `None` where it isn't whole or the byte names no operation.
+fn answer_case(rt: &HostRuntime, byte: u8) -> Option<()> {
+    match Operation::named_by(byte)? {
+        Operation::ReadRecord => answer_read(rt),
+        Operation::WriteRecord => answer_write(rt),
+        Operation::Build => answer_build(rt),
+        Operation::Rescore => answer_rescore(rt),
+        Operation::Fit => answer_fit(rt),
+        Operation::Tree => answer_tree(rt),
+        Operation::Text => answer_text(rt),
+        Operation::Line => answer_line(rt),
+        Operation::Whole => answer_whole(rt),
+        Operation::Sheet => answer_sheet(rt),
     }
 }
 
-// Answers a case of operations 3, 8 and 9, which starts with a degree bound and a list.
-fn answer_list(rt: &HostRuntime, operation: u8) -> bool {
-    let mut list = [0u8; 4096];
-    let listed = read_list(rt, &mut list);
-    if !listed.is_whole {
-        return false;
+// Answers the next case; `None` where the input ends or has a fault, which is told.
+fn answer_next(rt: &HostRuntime) -> Option<()> {
+    let [byte] = read_array::<1>(rt)?;
+    let answered = answer_case(rt, byte);
+    if answered.is_none() {
+        write(rt, b"malformed stream\n");
     }
-    let end = listed.end;
-    answer_listed(rt, operation, &list[..end], listed.degree)
+    answered
 }
 
-// Answers one case of the operation; false where the case isn't whole or the operation is unknown.
-fn answer_case(rt: &HostRuntime, operation: u8) -> bool {
-    match operation {
-        1 => answer_read(rt),
-        2 => answer_write(rt),
-        3 | 8 | 9 => answer_list(rt, operation),
-        4..=7 => answer_table(rt, operation),
-        10 => answer_sheet(rt),
-        _ => false,
-    }
-}
-
-fn tell_fault(rt: &HostRuntime) {
-    write(rt, b"malformed stream\n");
-}
-
-// Answers the next case; false where the input ends or has a fault, which is told.
-fn answer_next(rt: &HostRuntime) -> bool {
-    let mut operation = [0u8; 1];
-    if !fill(rt, &mut operation) {
-        return false;
-    }
-    if answer_case(rt, operation[0]) {
-        return true;
-    }
-    tell_fault(rt);
-    false
-}
-
-// A proved loop has to end, and nothing says that the input does. So the turns are counted down, from a number that no run uses up.
 fn main(rt: HostRuntime) {
-    let mut turns = u64::MAX;
-    while turns > 0 && answer_next(&rt) {
-        turns -= 1;
+    // a proved loop has to end, and nothing says that the input does: no run uses up so many turns
+    for _ in 0..u64::MAX {
+        if answer_next(&rt).is_none() {
+            break;
+        }
     }
 }

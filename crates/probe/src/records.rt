@@ -1,73 +1,37 @@
-// The operations on one record. Each reads its case and writes the answer; false where the case isn't whole, and then it writes nothing.
-// What a `tell_` writes is the answer of an operation on what was read.
+// The operations on one record. Each reads its case and writes the answer; where the case isn't whole it gives `None`, and has written
+// nothing.
 //     answer_read      operation 1, read one record
 //     answer_write     operation 2, write one record
-ghost use Rattle.std.specs.Prelude.{◌≡◌, length};
+use crate::stream::{LIST_CAP, ROOM_CAP, read_array, read_part, write, write_room, write_sent};
+use cluster::{Record, read_record, write_record};
 
-use crate::numbers::{WORD_BYTES, weight_at, wide, wide_bits_of, word_at};
-use crate::stream::{fill, read_part, read_room, write_number, write_room, write_sent};
-use cluster::Record;
-
-// Where the weight and the state of a record's fields stand; the cluster stands first.
-const WEIGHT_AT: usize = 4;
-
-const STATE_AT: usize = 8;
-
-fn write_fields(rt: &HostRuntime, r: Record) {
-    write_number(rt, r.cluster as u64, WORD_BYTES);
-    write_number(rt, wide_bits_of(r.weight), WORD_BYTES);
-    write_number(rt, wide(r.state), 1);
+pub(crate) fn answer_read(rt: &HostRuntime) -> Option<()> {
+    let mut bytes = [0u8; LIST_CAP];
+    let reading = read_record(read_part(rt, &mut bytes, 1)?);
+    let record = reading.record;
+    write_sent(rt, reading.answer);
+    write(rt, &record.cluster.to_le_bytes());
+    write(rt, &record.weight.to_le_bytes());
+    write(rt, &[record.state]);
+    Some(())
 }
 
-fn tell_read(rt: &HostRuntime, bytes: &[u8]) {
-    let reading = cluster::read_record(bytes);
-    let answer = reading.answer;
-    write_sent(rt, answer);
-    write_fields(rt, reading.record);
+fn read_fields(rt: &HostRuntime) -> Option<Record> {
+    let cluster = u32::from_le_bytes(read_array(rt)?);
+    let weight = i32::from_le_bytes(read_array(rt)?);
+    let state = u8::from_le_bytes(read_array(rt)?);
+    Some(Record {
+        cluster,
+        weight,
+        state,
+    })
 }
 
-pub(crate) fn answer_read(rt: &HostRuntime) -> bool {
-    let mut list = [0u8; 4096];
-    let part = read_part(rt, &mut list, 1);
-    if !part.is_whole {
-        return false;
-    }
-    let end = part.end;
-    tell_read(rt, &list[..end]);
-    true
-}
-
-fn fields_of(fields: &[u8]) -> Record
-    requires { length fields.now ≡ 9 }
-{
-    Record {
-        cluster: word_at(fields, 0),
-        weight: weight_at(fields, WEIGHT_AT),
-        state: fields[STATE_AT],
-    }
-}
-
-fn tell_write(rt: &HostRuntime, r: Record, room: &mut [u8]) {
-    let answer = cluster::write_record(r, room);
+pub(crate) fn answer_write(rt: &HostRuntime) -> Option<()> {
+    let record = read_fields(rt)?;
+    let mut bytes = [0u8; ROOM_CAP];
+    let room = read_part(rt, &mut bytes, 1)?;
+    let answer = write_record(record, room);
     write_room(rt, answer, room);
-}
-
-// Answers what follows the fields.
-fn answer_fields(rt: &HostRuntime, r: Record) -> bool {
-    let room = read_room(rt);
-    if !room.is_whole {
-        return false;
-    }
-    let end = room.end;
-    let mut bytes = room.bytes;
-    tell_write(rt, r, &mut bytes[..end]);
-    true
-}
-
-pub(crate) fn answer_write(rt: &HostRuntime) -> bool {
-    let mut fields = [0u8; 9];
-    if !fill(rt, &mut fields) {
-        return false;
-    }
-    answer_fields(rt, fields_of(&fields))
+    Some(())
 }

@@ -8,7 +8,7 @@
 use Rattle.std.proofs.Math.Option.{Option, none, some}
 use Rattle.std.specs.Prelude.{List, [], ℕ, ◌+◌}
 use Rattle.laws.specs.Limits.{narrow}
-use Rattle.answers.specs.declared.refusal.Answer.TheVariants.{Refused}
+use Rattle.std.specs.Prelude.{Err}
 use Rattle.answers.specs.declared.refusal.Refusal.{Refusal}
 use Rattle.answers.specs.Refusal.{sent_of}
 use Rattle.answers.specs.Reasons.{first_reason}
@@ -24,7 +24,7 @@ abbrev pub line_cap : ℕ
 line_cap = narrow.text_bytes + 24
 
 abbrev pub line_for : ℕ → Option Refusal → List ℕ → List ℕ
-line_for d (some f) line = refused_line d (sent_of (Refused f))
+line_for d (some f) line = refused_line d (sent_of (Err f))
 line_for d none line = line
 
 abbrev pub table_line : ℕ → Table → List ℕ

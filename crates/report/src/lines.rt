@@ -18,21 +18,16 @@ use texts::{Text, put};
 pub const LINE_CAP: usize = 172;
 
 // The line of a table.
+#[tactic(auto, using(drawing::proofs::Laws::Draw::drawn_text_row, drawing::proofs::Laws::Draw::drawn_text_fits))]
 fn table_line(degree: u32, t: Table) -> Text
     ensures { result ≡ with_bytes (holding []) (table_line degree t) }
 {
-    let drawn = drawn_text(t);
-    let answer = drawn.answer;
-    match answer {
-        Answer::Refused(refusal) => refused_line(degree, refusal),
-        Answer::Done(_) => {
+    match drawn_text(t) {
+        Err(refusal) => refused_line(degree, refusal),
+        Ok(drawn) => {
             let row = drawn.row;
-            let count = t.counts[row];
-            let mark = t.marks[row];
-            let best = t.bests[row];
-            let text = drawn.text;
-            let bytes = text.bytes;
-            tree_line(degree, count, mark, best, &bytes[..text.size])
+            let text = &drawn.text.bytes[..drawn.text.size];
+            tree_line(degree, t.counts[row], t.marks[row], t.bests[row], text)
         }
     }
 }
@@ -42,19 +37,18 @@ fn line_of(list: &[u8], degree: u32) -> Text
     ensures { result ≡ with_bytes (holding []) (line_of list.now degree) }
 {
     let built = build(list, degree);
-    let answer = built.answer;
-    match answer {
-        Answer::Refused(refusal) => refused_line(degree, refusal),
-        Answer::Done(_) => table_line(degree, built.table),
+    match built.answer {
+        Err(refusal) => refused_line(degree, refusal),
+        Ok(_) => table_line(degree, built.table),
     }
 }
 
 // The line that the program prints for a list and a degree bound, with its line feed. Refused 11 where the room is shorter, and only then;
 // the room is then left as it was.
+#[tactic(auto, using(texts::proofs::Laws::begun_fits))]
 pub fn line(list: &[u8], degree: u32, room: &mut [u8]) -> Answer
     ensures { outcome_of result room.new ≡ line_into list.now degree room.old }
 {
     let text = line_of(list, degree);
-    let bytes = text.bytes;
-    put(&bytes[..text.size], room)
+    put(&text.bytes[..text.size], room)
 }

@@ -11,6 +11,7 @@ use answers::Answer;
 use texts::{Text, add, add_decimal, empty};
 
 // The line of a sheet that gave so many records, and has so many columns with a ?.
+#[tactic(auto, using(texts::proofs::Laws::with_joined))]
 fn taken_line(records: usize, unread: usize) -> Text
     ensures { result ≡ with_bytes (holding []) (taken_line records unread) }
 {
@@ -20,11 +21,12 @@ fn taken_line(records: usize, unread: usize) -> Text
 }
 
 // What is said of a sheet by the answer to its import, with a line feed: the records and the columns with a ?, or the refusal.
+#[tactic(auto, using(texts::proofs::Laws::with_joined))]
 pub fn sheet_line(answer: Answer, unread: usize) -> Text
     ensures { result ≡ with_bytes (holding []) (sheet_line (sent_of answer) unread) }
 {
     match answer {
-        Answer::Refused(refusal) => add_refused(empty(), refusal),
-        Answer::Done(records) => taken_line(records, unread),
+        Err(refusal) => add_refused(empty(), refusal),
+        Ok(records) => taken_line(records, unread),
     }
 }

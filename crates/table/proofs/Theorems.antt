@@ -34,8 +34,8 @@ use Rattle.laws.specs.Lists.{elem}
 use Rattle.laws.specs.Row.{Row}
 use Rattle.laws.specs.Widths.{WidthFacts}
 use Rattle.laws.proofs.Tests.{T_true, true_T, T-of-not}
-use Rattle.answers.specs.declared.refusal.Answer.{Answer}
-use Rattle.answers.specs.declared.refusal.Answer.TheVariants.{Done, Refused}
+use Rattle.answers.specs.Refusal.{Answer}
+use Rattle.std.specs.Prelude.{Ok, Err}
 use Rattle.answers.specs.declared.refusal.Refusal.{Refusal}
 use Rattle.answers.specs.Outcome.{Outcome, outcome_of}
 use Rattle.answers.specs.Reasons.{First}
@@ -79,7 +79,7 @@ module _ (W : Width) (l : List ℕ) (d : ℕ) where
         λ k. number ∙ by.1 (λ n. T_not (is_degree d) n k.0, (accepted_iff W l).1 k.1),
       )
 
-  pub build_refuses_iff : (f : Refusal) → ((build_table W l d).sent ≡ sent_of (Refused f)) ↔ First (build_reasons W l d) f
+  pub build_refuses_iff : (f : Refusal) → ((build_table W l d).sent ≡ sent_of (Err f)) ↔ First (build_reasons W l d) f
   build_refuses_iff f =
       let by = refuses_iff (build_reasons W l d) zero_table 0 (table_of d (built_table W d (rows_of W l))) f in
       let sent = ap (λ (o : Outcome Table). o.sent) (build_of W l d refl) in
@@ -91,7 +91,7 @@ module _ (W : Width) (l : List ℕ) (d : ℕ) where
       let e = outcome_only x.answer y.answer x.table y.table p q in
       ap₂ (λ (a : Answer) (t : Table). record { answer = a; table = t }) e.0 e.1
 
-  build_done : T (is_degree d) → Accepted W l → build_table W l d ≡ outcome_of (Done 0) (table_of d (built_table W d (rows_of W l)))
+  build_done : T (is_degree d) → Accepted W l → build_table W l d ≡ outcome_of (Ok 0) (table_of d (built_table W d (rows_of W l)))
   build_done degree a =
       build_of W l d ((none_iff (build_reasons W l d)).1 (λ n. T_not (is_degree d) n degree, (accepted_iff W l).1 a))
 
@@ -107,7 +107,7 @@ pub build_of_records : (W : Width) (l m : List ℕ) (d : ℕ) → T (is_degree d
     → RecordsAmong W l m → RecordsAmong W m l → build_table W l d ≡ build_table W m d
 build_of_records W l m d degree a b there back =
     build_done W l d degree a
-    ∙ ap (λ (rs : List Row). outcome_of (Done 0) (table_of d (built_table W d rs))) (rows_of-records W l m a b there back)
+    ∙ ap (λ (rs : List Row). outcome_of (Ok 0) (table_of d (built_table W d rs))) (rows_of-records W l m a b there back)
     ∙ sym (build_done W m d degree b)
 
 -- ---- demand 3: rescoring a built table
@@ -159,7 +159,7 @@ module _ {W : Width} (facts : WidthFacts W) {l : List ℕ} (d : ℕ) (degree : T
           ∙ sym (built_table_lem W after d degree (changed-accepted facts k.byte k.accepted q.0 z s q.1 score))
 
       pub rescore_is_fresh-build : rescore_table W (build_table W l d).given c z s
-          ≡ outcome_of (Done 0) (build_table W (changed_bytes W l q.0 z s) d).given
+          ≡ outcome_of (Ok 0) (build_table W (changed_bytes W l q.0 z s) d).given
       rescore_is_fresh-build =
           sym (rescore_done W built c z s (T_true _ (build-fit W l d facts degree k.byte k.accepted))
           (T_true _ ((has_row_iff c).1 q)) (T_true _ score) (sym new_table_is))

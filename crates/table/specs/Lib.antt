@@ -11,6 +11,6 @@ pub mod Sums
 -- what the private functions cite: the arrays that the search reads, and what it may count on
 pub mod Columns
 pub mod Searched
--- what the private functions cite: columns as tables, and rows worked out
+-- columns as tables, and what the private functions cite of rows worked out
 pub mod Tables
 pub mod Working

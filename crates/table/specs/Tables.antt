@@ -1,4 +1,4 @@
--- Tables as the private functions have them, column by column.
+-- Tables column by column, as the laws of building and rescoring have them.
 --     table_in               columns as a table
 --     unworked_table         those of a list's rows, with no results
 -- Assumes nothing.

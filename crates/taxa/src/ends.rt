@@ -11,12 +11,12 @@ const LAST_TAXON: u32 = 63;
 pub fn highest(c: u64) -> u32
     ensures { result ≡ highest c }
 {
-    LAST_TAXON - u64::leading_zeros(c | 1)
+    LAST_TAXON - (c | 1).leading_zeros()
 }
 
 // The smallest taxon, 64 where there is none.
 pub fn lowest(c: u64) -> u32
     ensures { result ≡ lowest 64 c }
 {
-    u64::trailing_zeros(c)
+    c.trailing_zeros()
 }

@@ -16,10 +16,7 @@ pub fn is_inside(a: u64, b: u64) -> bool
 pub fn is_strict(a: u64, b: u64) -> bool
     ensures { result ≡ strict a b }
 {
-    if a == b {
-        return false;
-    }
-    is_inside(a, b)
+    a != b && is_inside(a, b)
 }
 
 // Whether no taxon is in both.

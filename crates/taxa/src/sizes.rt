@@ -8,7 +8,7 @@ ghost use Rattle.laws.specs.Cluster.{size, single};
 pub fn size(c: u64) -> u32
     ensures { result ≡ size c }
 {
-    u64::count_ones(c)
+    c.count_ones()
 }
 
 // Whether the cluster has exactly one taxon.

@@ -1,25 +1,28 @@
 -- Texts in the making.
---     with_none, with_room     no byte more where there is no room, and one more where there is
 --     with_nil                 no byte more
 --     with_append              bytes one after another are all of them at once
+--     with_joined              which reads a call on what another gave as one
 --     with_then                so it is of what two calls gave, one after the other
---     with_more, with_all      a loop over bytes: one more, and the end
+--     with_copied              bytes copied to the place where the text ends, as many as there is room for
 --     with_low, with_high      a number below ten is one figure; another is a tenth of it and then the last figure
 --     with_held, text_held     a text of bytes, with more added, is that of the first of them all that there is room for; from no bytes on,
 --                              it is that of what was added
+--     begun_fits               such a text has no more bytes than there is room for
 --     text-front, text-fits, text-count     the bytes that a text holds are the first of its array
 -- Assumes nothing.
 use mathlib.Core.Path.{◌≡◌, refl, sym, ap, ap₂, ◌∙◌}
 use mathlib.Core.List.{List, [], ◌∷◌, ◌++◌, append_assoc, append-nil}
-use Prim.Native.Nat.{ℕ, zero, suc, ◌+◌, ◌-◌, ◌/◌, ◌%◌, ◌≤◌, ◌<◌}
+use Prim.Native.Nat.{ℕ, zero, suc, ◌+◌, ◌-◌, ◌/◌, ◌%◌, ◌≤◌, ◌<◌, min}
 use native.Mathlib.Decide.{dec_le}
 use native.Mathlib.Nat.{add-zero, sub-zero}
-use native.Mathlib.Numerals.{add-one}
 use native.Mathlib.Omega.{arith}
-use lib.ListN.{length, length-append, length-take, get_or, replicate, length-replicate, replicate-append-replicate, set}
+use borrow.Rule.Slice.PartMut.{put_mid}
+use lib.ListN.{length, length-append, length-take, replicate, length-replicate, replicate-append-replicate}
 use lib.ListN.{take, drop, drop_of_length-le}
-use lib.Seq.{drop-cons, drop-drop, take_all, take_at, drop_at, take-nil, length-take-le}
-use lib.Seq.{sets-eq, paste-zero, take-append_seam, drop-append-add}
+use lib.Seq.{drop-drop, take_all, take_at, drop_at, take-nil, take-length, length-take-le}
+use lib.Seq.{paste-zero, take-append_seam, drop-append-add}
+use Rattle.std.proofs.lemmas.List.{take_min}
+use Rattle.std.proofs.lemmas.Slice.{put_mid-paste}
 use Rattle.shapes.specs.Decimal.{figure, decimal}
 use Rattle.shapes.proofs.Decimal.{decimal-one, decimal_high}
 use Rattle.texts.specs.declared.text.Text.{Text}
@@ -75,10 +78,6 @@ take-append (suc k) (x ∷ a) b =
     let less : k - length (take k a) ≡ suc k - suc (length (take k a)) = omega arith in
     ap (λ (l : List ℕ). x ∷ l) (take-append k a b ∙ ap (λ (n : ℕ). take k a ++ take n b) less)
 
-with_fits : (t : Text) (l : List ℕ) → length l ≤ text_cap - t.size → with_bytes t l ≡ longer t l
-unfolding with_bytes
-with_fits t l h = ap (longer t) (take_all (text_cap - t.size) l h)
-
 pub with_nil : (t : Text) → with_bytes t [] ≡ t
 unfolding with_bytes
 with_nil t = ap (longer t) (take-nil (text_cap - t.size)) ∙ longer-nil t
@@ -91,28 +90,34 @@ with_append t a b =
     let less : room - length first ≡ text_cap - (t.size + length first) = omega arith in
     ap (longer t) (take-append room a b ∙ ap (λ (n : ℕ). first ++ take n b) less) ∙ longer-append t first _
 
+pub with_joined : (t : Text) (a b : List ℕ) → with_bytes (with_bytes t a) b ≡ with_bytes t (a ++ b)
+with_joined t a b = sym (with_append t a b)
+
 pub with_then : (t : Text) (a b : List ℕ) {r s : Text} → r ≡ with_bytes t a → s ≡ with_bytes r b → s ≡ with_bytes t (a ++ b)
 with_then t a b p q = q ∙ ap (λ (x : Text). with_bytes x b) p ∙ sym (with_append t a b)
 
-module _ (t : Text) (b : ℕ) where
-  pub with_none : text_cap ≤ t.size → t ≡ with_bytes t (b ∷ [])
+-- the bytes that there is room for, copied to the place where the text ends
+module _ (t : Text) (l : List ℕ) {start n : ℕ} where
+  with_fitting : start ≡ min t.size text_cap → n ≡ min (length l) (text_cap - start) → length t.bytes ≡ text_cap
+      → record { bytes = over t.bytes start (take n l); size = t.size + length (take n l) } ≡ with_bytes t l
   unfolding with_bytes
-  with_none h =
-      let full : text_cap - t.size ≡ 0 = omega arith in
-      sym (ap (λ (n : ℕ). longer t (take n (b ∷ []))) full ∙ longer-nil t)
+  with_fitting s m long =
+      let fitting : take n l ≡ take (text_cap - t.size) l =
+      ap (λ (k : ℕ). take k l) (let k : n ≡ min (text_cap - t.size) (length l) = omega arith in k) ∙ take_min (text_cap - t.size) l in
+      ap₂ made (go (dec_le t.size text_cap)) refl ∙ ap (longer t) fitting
+    where
+      go : Dec (t.size ≤ text_cap) → over t.bytes start (take n l) ≡ over t.bytes t.size (take n l)
+      go (yes h) = let same : start ≡ t.size = omega arith in rw same refl
+      go (no h) = over_past t.bytes (take n l) start (omega arith) ∙ sym (over_past t.bytes (take n l) t.size (omega arith))
 
-  pub with_room : t.size < text_cap → length t.bytes ≡ text_cap
-      → record { bytes = set t.bytes t.size b; size = t.size + 1 } ≡ with_bytes t (b ∷ [])
-  with_room h e =
-      ap (λ (l : List ℕ). made l (t.size + 1)) (sets-eq (b ∷ []) t.bytes t.size (omega arith))
-      ∙ sym (with_fits t (b ∷ []) (omega arith))
-
-module _ (t : Text) (l : List ℕ) (i : ℕ) where
-  pub with_more : i < length l → with_bytes t (drop i l) ≡ with_bytes (with_bytes t (get_or l i 0 ∷ [])) (drop (i + 1) l)
-  with_more h = rw (add-one i, drop-cons l i 0 h) (with_append t (get_or l i 0 ∷ []) (drop (suc i) l))
-
-  pub with_all : length l ≤ i → with_bytes t (drop i l) ≡ t
-  with_all h = rw (drop_of_length-le l h) (with_nil t)
+  pub with_copied : {copied : List ℕ} → start ≡ min t.size text_cap → n ≡ min (length l) (text_cap - start) → length t.bytes ≡ text_cap
+      → copied ≡ take n l
+      → record { bytes = put_mid start (start + length (take n l) - start) t.bytes copied; size = t.size + length (take n l) } ≡ with_bytes t l
+  with_copied {copied} s m long e =
+      ap (λ (x : List ℕ). made x (t.size + length (take n l)))
+      (put_mid-paste start (start + length (take n l) - start) t.bytes copied (take n l) (length (take n l)) e (omega arith) refl
+      ∙ ap (λ (x : List ℕ). take start t.bytes ++ x ++ drop (start + length (take n l)) t.bytes) (take-length (take n l)))
+      ∙ with_fitting s m long
 
 -- ---- a number
 
@@ -154,6 +159,9 @@ with_held l m h =
 
 pub text_held : (l : List ℕ) → length l ≤ text_cap → with_bytes (holding []) l ≡ holding l
 text_held l h = with_held [] l (omega arith) ∙ ap holding (take_all text_cap l h)
+
+pub begun_fits : (l : List ℕ) → (with_bytes (holding []) l).size ≤ text_cap
+begun_fits l = omega (arith, ap (λ (t : Text). t.size) (with_held [] l (omega arith)), length-take text_cap l)
 
 module _ {t : Text} (l : List ℕ) (e : t ≡ holding l) where
   pub text-front : take t.size t.bytes ≡ l

@@ -5,21 +5,20 @@ ghost use Rattle.std.specs.Prelude.{◌≡◌};
 ghost use Rattle.shapes.specs.Decimal.{decimal};
 ghost use Rattle.texts.specs.Text.{with_bytes};
 
-use crate::text::{Text, add_byte};
-
-const NOUGHT: u8 = 48;
+use crate::text::{TEXT_CAP, Text};
 
 // Bytes at the end of a text, as many as it has room for.
-#[tactic(auto, using(crate::proofs::Laws::with_more, crate::proofs::Laws::with_all))]
+#[tactic(auto, using(crate::proofs::Laws::with_copied))]
 pub fn add(text: Text, bytes: &[u8]) -> Text
     ensures { result ≡ with_bytes text bytes.now }
 {
+    // Anyone may set the size: past the room it leaves none.
+    let start = text.size.min(TEXT_CAP);
+    let n = bytes.len().min(TEXT_CAP - start);
+    let taken = &bytes[..n];
     let mut longer = text;
-    let mut i = 0;
-    while i < bytes.len() {
-        longer = add_byte(longer, bytes[i]);
-        i += 1;
-    }
+    longer.bytes[start..start + taken.len()].copy_from_slice(taken);
+    longer.size += taken.len();
     longer
 }
 
@@ -29,8 +28,8 @@ pub fn add_decimal(text: Text, n: u64) -> Text
     ensures { result ≡ with_bytes text (decimal n) }
 {
     if n < 10 {
-        return add_byte(text, NOUGHT + n as u8);
+        return add(text, &[b'0' + n as u8]);
     }
     let tenth = add_decimal(text, n / 10);
-    add_byte(tenth, NOUGHT + (n % 10) as u8)
+    add(tenth, &[b'0' + (n % 10) as u8])
 }

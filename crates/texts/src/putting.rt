@@ -10,9 +10,8 @@ pub fn put(bytes: &[u8], room: &mut [u8]) -> Answer
     ensures { outcome_of result room.new ≡ written [] bytes.now room.old }
 {
     if room.len() < bytes.len() {
-        return Answer::Refused(Refusal::NoRoom);
+        return Err(Refusal::NoRoom);
     }
-    let n = bytes.len();
-    room[..n].copy_from_slice(bytes);
-    Answer::Done(n)
+    room[..bytes.len()].copy_from_slice(bytes);
+    Ok(bytes.len())
 }

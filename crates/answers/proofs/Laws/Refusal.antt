@@ -10,8 +10,8 @@ use Prim.Native.Nat.{ℕ, ◌≤◌}
 use native.Mathlib.Decide.{dec_le}
 use native.Mathlib.Omega.{arith}
 use lib.ListN.{get_or, get_or-eq_default}
-use Rattle.answers.specs.declared.refusal.Answer.{Answer}
-use Rattle.answers.specs.declared.refusal.Answer.TheVariants.{Done, Refused}
+use Rattle.answers.specs.Refusal.{Answer}
+use Rattle.std.specs.Prelude.{Ok, Err}
 use Rattle.answers.specs.declared.refusal.Refusal.{Refusal}
 use Rattle.answers.specs.declared.refusal.Refusal.TheVariants.{NoBytes, WrongLength, TooLong, DegreeOut, BadRecord, Repeated}
 use Rattle.answers.specs.declared.refusal.Refusal.TheVariants.{NoTree, Unfit, NoRow, BadScore, NoRoom, BadSheet, ManyClusters}
@@ -23,7 +23,7 @@ refusals p =
     ∷ BadSheet p ∷ ManyClusters ∷ []
 
 abbrev pub answers : ℕ → ℕ → List Answer
-answers n p = Done n ∷ map Refused (refusals p)
+answers n p = Ok n ∷ map Err (refusals p)
 
 abbrev pub row : ℕ → ℕ → ℕ → Sent
 row number position told = record { number = number; position = position; told = told }
@@ -48,24 +48,24 @@ sent-table n p = refl
 
 -- the answer of what is sent: the number is its place
 answer_of : ℕ → ℕ → ℕ → Answer
-answer_of m p n = get_or (answers n p) m (Done 0)
+answer_of m p n = get_or (answers n p) m (Ok 0)
 
 answer_of_sent : (a : Answer) → answer_of (sent_of a).number (sent_of a).position (sent_of a).told ≡ a
 unfolding answer_of
-answer_of_sent (Done n) = refl
-answer_of_sent (Refused NoBytes) = refl
-answer_of_sent (Refused WrongLength) = refl
-answer_of_sent (Refused TooLong) = refl
-answer_of_sent (Refused DegreeOut) = refl
-answer_of_sent (Refused (BadRecord i)) = refl
-answer_of_sent (Refused (Repeated i)) = refl
-answer_of_sent (Refused NoTree) = refl
-answer_of_sent (Refused Unfit) = refl
-answer_of_sent (Refused NoRow) = refl
-answer_of_sent (Refused BadScore) = refl
-answer_of_sent (Refused NoRoom) = refl
-answer_of_sent (Refused (BadSheet i)) = refl
-answer_of_sent (Refused ManyClusters) = refl
+answer_of_sent (Ok n) = refl
+answer_of_sent (Err NoBytes) = refl
+answer_of_sent (Err WrongLength) = refl
+answer_of_sent (Err TooLong) = refl
+answer_of_sent (Err DegreeOut) = refl
+answer_of_sent (Err (BadRecord i)) = refl
+answer_of_sent (Err (Repeated i)) = refl
+answer_of_sent (Err NoTree) = refl
+answer_of_sent (Err Unfit) = refl
+answer_of_sent (Err NoRow) = refl
+answer_of_sent (Err BadScore) = refl
+answer_of_sent (Err NoRoom) = refl
+answer_of_sent (Err (BadSheet i)) = refl
+answer_of_sent (Err ManyClusters) = refl
 
 pub sent_of_inj : (a b : Answer) → sent_of a ≡ sent_of b → a ≡ b
 sent_of_inj a b e =
@@ -74,7 +74,7 @@ sent_of_inj a b e =
 pub number_pos : (f : Refusal) → number_of f ≡ 0 → ⊥
 unfolding answer_of
 number_pos f e =
-    let done : Refused f ≡ Done 0 = sym (answer_of_sent (Refused f)) ∙ ap (λ (m : ℕ). answer_of m (position_of f) 0) e in
+    let done : ◌≡◌ {A = Answer} (Err f) (Ok 0) = sym (answer_of_sent (Err f)) ∙ ap (λ (m : ℕ). answer_of m (position_of f) 0) e in
     let z : ◌≡◌ {A = ℕ} 0 1 = cc in omega arith
 
 -- past the last number there is no refusal
@@ -85,6 +85,6 @@ number-le f = go (dec_le (number_of f) 13)
     go : Dec (number_of f ≤ 13) → number_of f ≤ 13
     go (yes h) = h
     go (no h) =
-        let past = get_or-eq_default (answers 0 (position_of f)) (Done 0) {n = number_of f} (omega arith) in
-        let done : Refused f ≡ Done 0 = sym (answer_of_sent (Refused f)) ∙ past in
+        let past = get_or-eq_default (answers 0 (position_of f)) (Ok 0) {n = number_of f} (omega arith) in
+        let done : ◌≡◌ {A = Answer} (Err f) (Ok 0) = sym (answer_of_sent (Err f)) ∙ past in
         let z : ◌≡◌ {A = ℕ} 0 1 = cc in absurd (omega arith)

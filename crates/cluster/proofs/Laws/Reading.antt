@@ -11,7 +11,7 @@ use Prim.Native.Nat.{ℕ}
 use borrow.Author.Tests.{eq-eqb, ne_eqb}
 use lib.ListN.{length}
 use Rattle.laws.specs.Limits.{narrow}
-use Rattle.answers.specs.declared.refusal.Answer.TheVariants.{Done, Refused}
+use Rattle.std.specs.Prelude.{Ok, Err}
 use Rattle.answers.specs.declared.refusal.Refusal.{Refusal}
 use Rattle.answers.specs.declared.refusal.Refusal.TheVariants.{WrongLength, BadRecord}
 use Rattle.answers.specs.Outcome.{outcome_of, ended}
@@ -32,15 +32,15 @@ module _ (l : List ℕ) where
   abbrev broken : List Reason
   broken = when (not (is_kept (rule_of narrow l))) (BadRecord 0) ∷ []
 
-  pub read_record-length : length l ≢ record_bytes → read_record l ≡ outcome_of (Refused WrongLength) zero_record
+  pub read_record-length : length l ≢ record_bytes → read_record l ≡ outcome_of (Err WrongLength) zero_record
   read_record-length n = by (reason_told _ WrongLength broken (ap not (ne_eqb _ _ n)))
 
   fits : length l ≡ record_bytes → first_reason (read_reasons l) ≡ first_reason broken
   fits h = reason_passed _ WrongLength broken (ap not (eq-eqb _ _ h))
 
   pub read_record-broken : length l ≡ record_bytes → is_kept (rule_of narrow l) ≡ false
-      → read_record l ≡ outcome_of (Refused (BadRecord 0)) zero_record
+      → read_record l ≡ outcome_of (Err (BadRecord 0)) zero_record
   read_record-broken h e = by (fits h ∙ reason_told _ (BadRecord 0) [] (ap not e))
 
-  pub read_record-kept : length l ≡ record_bytes → is_kept (rule_of narrow l) ≡ true → read_record l ≡ outcome_of (Done 0) (record_of l)
+  pub read_record-kept : length l ≡ record_bytes → is_kept (rule_of narrow l) ≡ true → read_record l ≡ outcome_of (Ok 0) (record_of l)
   read_record-kept h e = by (fits h ∙ reason_passed _ (BadRecord 0) [] (ap not e))

@@ -18,33 +18,34 @@ use Rattle.laws.specs.Row.{Row}
 use Rattle.laws.specs.State.{unscored, is_state}
 use Rattle.laws.proofs.Integers.{zero_of_abs}
 use Rattle.laws.proofs.Tests.{T_and, and_T, T_false, neq→, →neq}
-use Rattle.cluster.specs.declared.rule.Rule.TheVariants.{Kept, EmptyCluster, UnknownState, SpareBytes, UnscoredWeight, WeightRange}
+use Rattle.std.specs.Prelude.{None, Some}
+use Rattle.cluster.specs.declared.rule.Rule.TheVariants.{EmptyCluster, UnknownState, SpareBytes, UnscoredWeight, WeightRange}
 use Rattle.cluster.specs.Rule.{in_range, unscored_weight, broken_rule, is_kept, is_score, keeps_rules, KeepsScore, Keeps}
 
 -- ---- each rule in its turn
 
 module _ (c : ℕ) (z : ℤ) (s : ℕ) (spare : Bool) where
-  pub rule_empty : c ≡ 0 → broken_rule c z s spare ≡ EmptyCluster
+  pub rule_empty : c ≡ 0 → broken_rule c z s spare ≡ Some EmptyCluster
   unfolding broken_rule
   rule_empty e = simp (eq-eqb _ _ e)
 
   module _ (taxon : c ≢ 0) where
-    pub rule_state : is_state s ≡ false → broken_rule c z s spare ≡ UnknownState
+    pub rule_state : is_state s ≡ false → broken_rule c z s spare ≡ Some UnknownState
     unfolding broken_rule
     rule_state e = simp (ne_eqb _ _ taxon, e)
 
     module _ (state : is_state s ≡ true) where
-      pub rule_spare : spare ≡ true → broken_rule c z s spare ≡ SpareBytes
+      pub rule_spare : spare ≡ true → broken_rule c z s spare ≡ Some SpareBytes
       unfolding broken_rule
       rule_spare e = simp (ne_eqb _ _ taxon, state, e)
 
       module _ (clear : spare ≡ false) where
-        pub rule_unscored : unscored_weight z s ≡ true → broken_rule c z s spare ≡ UnscoredWeight
+        pub rule_unscored : unscored_weight z s ≡ true → broken_rule c z s spare ≡ Some UnscoredWeight
         unfolding broken_rule
         rule_unscored e = simp (ne_eqb _ _ taxon, state, clear, e)
 
         -- the weight's range is the last rule
-        pub rule_last : unscored_weight z s ≡ false → broken_rule c z s spare ≡ cond (not (in_range z)) WeightRange Kept
+        pub rule_last : unscored_weight z s ≡ false → broken_rule c z s spare ≡ cond (not (in_range z)) (Some WeightRange) None
         unfolding broken_rule
         rule_last e = simp (ne_eqb _ _ taxon, state, clear, e)
 
@@ -91,12 +92,12 @@ module _ (z : ℤ) (s : ℕ) where
 
 -- the tests of the five rules, none of which applies
 none-applies : (a b c d e : Bool)
-    → is_kept (cond a EmptyCluster (cond (not b) UnknownState (cond c SpareBytes (cond d UnscoredWeight (cond (not e) WeightRange Kept)))))
+    → is_kept (cond a (Some EmptyCluster) (cond (not b) (Some UnknownState) (cond c (Some SpareBytes) (cond d (Some UnscoredWeight) (cond (not e) (Some WeightRange) None)))))
     ≡ not a && (not c && (b && (not d && e)))
 none-applies true b c d e = refl
 none-applies false b true d e = go b
   where
-    go : (b : Bool) → is_kept (cond (not b) UnknownState SpareBytes) ≡ false
+    go : (b : Bool) → is_kept (cond (not b) (Some UnknownState) (Some SpareBytes)) ≡ false
     go true = refl
     go false = refl
 none-applies false false false d e = refl

@@ -21,7 +21,7 @@ use Rattle.shapes.specs.Shape.{Shape}
 use Rattle.shapes.specs.Text.{text_bytes}
 use Rattle.shapes.specs.Drawn.{ascending, shape_of, text_of}
 use Rattle.shapes.specs.Nests.{TreeOn}
-use Rattle.shapes.proofs.Theorems.{trees_on_lem, shape-only}
+use Rattle.shapes.proofs.Theorems.{trees_on_lem}
 use Rattle.answers.specs.Outcome.{Outcome, written}
 use Rattle.answers.proofs.Laws.Outcome.{written-ends}
 use Rattle.lists.specs.Records.{rows_of}

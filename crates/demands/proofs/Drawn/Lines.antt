@@ -25,7 +25,7 @@ use Rattle.shapes.specs.Shape.{Shape}
 use Rattle.shapes.specs.Text.{text_bytes}
 use Rattle.shapes.specs.Drawn.{text_of}
 use Rattle.shapes.proofs.Backward.{text-reverse}
-use Rattle.answers.specs.declared.refusal.Answer.TheVariants.{Done}
+use Rattle.std.specs.Prelude.{Ok}
 use Rattle.answers.specs.declared.refusal.Refusal.{Refusal}
 use Rattle.answers.specs.Outcome.{Outcome, outcome_of, written}
 use Rattle.answers.proofs.Laws.Outcome.{written-whole, written_same}
@@ -70,7 +70,7 @@ module _ (l : List ℕ) (d : ℕ) (degree : T (is_degree d)) (a : AcceptedBytes 
   k : Buildable narrow d rs
   k = buildable narrow_facts degree a.byte a.accepted
 
-  built : outcome_of (Done 0) t ≡ build_table narrow l d
+  built : outcome_of (Ok 0) t ≡ build_table narrow l d
   built =
       sym (build_of narrow l d ((none_iff (build_reasons narrow l d)).1
       (λ n. T_not (is_degree d) n degree, (accepted_iff narrow l).1 a.accepted)))

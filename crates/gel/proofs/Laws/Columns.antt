@@ -4,19 +4,17 @@
 --     marks_to s j i          the first i marks of column j, the last first
 --     ReadUp s j n w ..      column j is read but for its first i marks: their cluster, with what is in hand in front of it, is the
 --                            column's; the column has a ? where they have one; and where line i stands
---     read_none, read_more   the reading begins, and goes on past a mark that isn't a ?
---     read_start             where it begins is far below what a word holds
---     read_small             and so is the cluster in hand
---     read_up, read-within   the line above stands above, and its mark is within the sheet
+--     read_small             the cluster in hand is far below what a word holds
 --     read_bit               a mark that isn't a ? is 0 or 1
---     read_stopped, read-ended     the reading ends at a ?, or above line 0
+--     read_stopped, read_more     the reading ends at a ?, and goes on past another mark
 -- Assumes nothing.
 use mathlib.Core.Path.{◌≡◌, refl, sym, ap, ◌∙◌, subst}
 use mathlib.Core.Logic.{◌⊎◌, inl, inr, ◌≢◌}
 use mathlib.Core.Bool.{Bool, true, false, cond, ◌||◌}
+use Rattle.std.specs.Prelude.{None}
 use mathlib.Core.List.{List, [], ◌∷◌}
 use Prim.Native.Nat.{ℕ, suc, ◌+◌, ◌-◌, ◌*◌, ◌^◌, ◌≤◌, ◌<◌}
-use native.Mathlib.Nat.{suc-mul, mul-le-mul_right, mul-le-mul_left, pow-suc}
+use native.Mathlib.Nat.{suc-mul, pow-suc}
 use native.Mathlib.Nat.{pow-succ', mul_assoc, mul_comm, add-mul, le-mul_of_pos_right}
 use native.Mathlib.Omega.{arith}
 use borrow.Author.Tests.{ne_eqb}
@@ -26,9 +24,9 @@ use lib.Pow.{pow_mono, pow_pos}
 use Rattle.laws.specs.Orders.{down_to}
 use Rattle.laws.proofs.Down.{down_length, elem_down_iff}
 use Rattle.laws.proofs.Tests.{T-or, T_true}
-use Rattle.gel.specs.Lines.{nought, one, unread, line_max, width_max, line_count}
+use Rattle.gel.specs.Lines.{nought, one, unread, line_max, line_count}
 use Rattle.gel.specs.Columns.{mark_at, column_at, is_unread, cluster_of}
-use Rattle.gel.specs.Form.{is_bit, Formed, ColumnIs}
+use Rattle.gel.specs.Form.{is_bit, Formed, read_of}
 
 -- a taxon that is taken or not is no more than itself
 cond-le : (b : Bool) (t : ℕ) → cond b t 0 ≤ t
@@ -61,16 +59,7 @@ module _ (s : List ℕ) (j : ℕ) where
     pub ones : cluster * 2 ^ i + cluster_of (marks_to i) ≡ cluster_of (marks_to n)
     pub clear : is_unread (marks_to n) ≡ is_unread (marks_to i)
 
-  pub read_none : (n w : ℕ) → ReadUp n w 0 (n * (w + 1) + j) n
-  read_none n w = record { high = omega arith; place = refl; ones = omega arith; clear = refl }
-
   module _ (n w : ℕ) (formed : Formed s n w) (inside : j < w) where
-    pub read_start : n * (w + 1) + j < line_max * (width_max + 1) + width_max
-    read_start = omega (arith, formed.narrow, mul-le-mul_right (w + 1) formed.most, mul-le-mul_left line_max wide)
-      where
-        wide : w + 1 ≤ width_max + 1
-        wide = omega (arith, formed.narrow)
-
     module _ (cluster at i : ℕ) (r : ReadUp n w cluster at i) where
       pub read_small : cluster < 2 ^ line_max
       read_small =
@@ -89,20 +78,27 @@ module _ (s : List ℕ) (j : ℕ) where
         place-above : at ≡ (i - 1) * (w + 1) + j + (w + 1)
         place-above = omega (arith, above.place, suc-mul (i - 1) (w + 1))
 
-        pub read_up : w + 1 ≤ at
-        read_up = omega (arith, place-above)
+        -- the mark of the line above
+        abbrev mark : ℕ
+        mark = get_or s (at - (w + 1)) 0
 
-        pub read-within : at - (w + 1) < length s
-        read-within = omega (arith, r.place, r.high, inside, formed.long, mul-le-mul_right (w + 1) r.high)
-
-        read-mark : get_or s (at - (w + 1)) 0 ≡ mark_at s (i - 1) j
-        read-mark =
+        mark_is : mark ≡ mark_at s (i - 1) j
+        mark_is =
             let e : at - (w + 1) ≡ (i - 1) * (w + 1) + j = omega (arith, place-above) in
             ap (λ (k : ℕ). get_or s k 0) e ∙ formed.marks (i - 1) j above.high inside
 
-        module _ (other : get_or s (at - (w + 1)) 0 ≢ unread) where
-          pub read_bit : T (is_bit (get_or s (at - (w + 1)) 0))
-          read_bit = subst (λ (b : ℕ). T (is_bit b)) (sym read-mark) (go (T-or (is_bit m) (eqb m unread) told))
+        pub read_stopped : mark ≡ unread → None ≡ read_of (column_at s j)
+        read_stopped e = sym (rw found refl)
+          where
+            found : is_unread (column_at s j) ≡ true
+            found =
+                T_true (is_unread (column_at s j))
+                ((elem_down_iff (λ (k : ℕ). mark_at s k j) (line_count s) unread).1
+                (i - 1, omega (arith, above.high, formed.lines), sym e ∙ mark_is))
+
+        module _ (other : mark ≢ unread) where
+          pub read_bit : T (is_bit mark)
+          read_bit = subst (λ (b : ℕ). T (is_bit b)) (sym mark_is) (go (T-or (is_bit m) (eqb m unread) told))
             where
               m : ℕ
               m = mark_at s (i - 1) j
@@ -112,23 +108,22 @@ module _ (s : List ℕ) (j : ℕ) where
 
               go : T (is_bit m) ⊎ T (eqb m unread) → T (is_bit m)
               go (inl h) = h
-              go (inr h) = absurd (other (read-mark ∙ eqb→eq m unread h))
+              go (inr h) = absurd (other (mark_is ∙ eqb→eq m unread h))
 
           -- t is what the mark counts
-          pub read_more : (t : ℕ) → t ≡ cond (eqb (get_or s (at - (w + 1)) 0) one) 1 0
-              → ReadUp n w (2 * cluster + t) (at - (w + 1)) (i - 1)
+          pub read_more : (t : ℕ) → t ≡ cond (eqb mark one) 1 0 → ReadUp n w (2 * cluster + t) (at - (w + 1)) (i - 1)
           read_more t is = record {
             high = omega (arith, above.high);
             place = omega (arith, place-above);
             ones = omega (arith, above.ones, adds, doubled, add-mul (2 * cluster) t (2 ^ (i - 1)));
             clear =
                 above.clear
-                ∙ rw (ne_eqb unread (mark_at s (i - 1) j) (λ (e : unread ≡ mark_at s (i - 1) j). other (read-mark ∙ sym e))) refl;
+                ∙ rw (ne_eqb unread (mark_at s (i - 1) j) (λ (e : unread ≡ mark_at s (i - 1) j). other (mark_is ∙ sym e))) refl;
           }
             where
               adds : t * 2 ^ (i - 1) ≡ cond (eqb (mark_at s (i - 1) j) one) (2 ^ length (marks_to (i - 1))) 0
               adds =
-                  ap (λ (x : ℕ). x * 2 ^ (i - 1)) (is ∙ ap (λ (m : ℕ). cond (eqb m one) 1 0) read-mark)
+                  ap (λ (x : ℕ). x * 2 ^ (i - 1)) (is ∙ ap (λ (m : ℕ). cond (eqb m one) 1 0) mark_is)
                   ∙ cond-mul (eqb (mark_at s (i - 1) j) one) (2 ^ (i - 1))
                   ∙ ap (λ (k : ℕ). cond (eqb (mark_at s (i - 1) j) one) (2 ^ k) 0)
                   (sym (down_length (λ (k : ℕ). mark_at s k j) (i - 1)))
@@ -138,27 +133,3 @@ module _ (s : List ℕ) (j : ℕ) where
                   ap (λ (x : ℕ). cluster * x) (pow-succ' 2 (i - 1))
                   ∙ sym (mul_assoc cluster 2 (2 ^ (i - 1)))
                   ∙ ap (λ (x : ℕ). x * 2 ^ (i - 1)) (mul_comm cluster 2)
-
-        pub read_stopped : get_or s (at - (w + 1)) 0 ≡ unread → ColumnIs s j (record { cluster = 0; unread = 1 })
-        read_stopped e = record { unread = rw found; cluster = rw found }
-          where
-            found : is_unread (column_at s j) ≡ true
-            found =
-                T_true (is_unread (column_at s j))
-                ((elem_down_iff (λ (k : ℕ). mark_at s k j) (line_count s) unread).1
-                (i - 1, omega (arith, above.high, formed.lines), sym e ∙ read-mark))
-
-      pub read-ended : i ≤ 0 → ColumnIs s j (record { cluster = cluster; unread = 0 })
-      read-ended h = record { unread = rw clear; cluster = rw clear (ones ∙ ap cluster_of all) }
-        where
-          all : marks_to n ≡ column_at s j
-          all = ap marks_to formed.lines
-
-          end : ReadUp n w cluster at 0
-          end = let e : i ≡ 0 = omega arith in subst (ReadUp n w cluster at) e r
-
-          ones : cluster ≡ cluster_of (marks_to n)
-          ones = omega (arith, end.ones)
-
-          clear : is_unread (column_at s j) ≡ false
-          clear = sym (ap is_unread all) ∙ end.clear

@@ -16,8 +16,7 @@ use lib.ListN.{length}
 use Rattle.laws.specs.Limits.{narrow}
 use Rattle.laws.proofs.Tests.{T_true, T_false}
 use Rattle.laws.proofs.Width.{narrow_facts}
-use Rattle.answers.specs.declared.refusal.Answer.{Answer}
-use Rattle.answers.specs.declared.refusal.Answer.TheVariants.{Done, Refused}
+use Rattle.std.specs.Prelude.{Result, Ok, Err}
 use Rattle.answers.specs.declared.refusal.Refusal.{Refusal}
 use Rattle.answers.specs.declared.refusal.Refusal.TheVariants.{NoRoom, BadSheet, ManyClusters}
 use Rattle.answers.specs.Outcome.{Outcome, outcome_of, ended}
@@ -53,11 +52,11 @@ module _ (s room : List ℕ) where
   told bad many short =
       first_reason (when bad (BadSheet (first_fault s)) ∷ when many ManyClusters ∷ when short NoRoom ∷ [])
 
-  pub import_bad : is_bad_sheet s ≡ true → import_sheet s room ≡ outcome_of (Refused (BadSheet (first_fault s))) (not_imported room)
+  pub import_bad : is_bad_sheet s ≡ true → import_sheet s room ≡ outcome_of (Err (BadSheet (first_fault s))) (not_imported room)
   import_bad e = import_is ∙ ap (λ (b : Bool). ended_by (told b is_many is_short)) e
 
   module _ (good : is_bad_sheet s ≡ false) where
-    pub import_many : narrow.rows < length (sheet_rows s) → import_sheet s room ≡ outcome_of (Refused ManyClusters) (not_imported room)
+    pub import_many : narrow.rows < length (sheet_rows s) → import_sheet s room ≡ outcome_of (Err ManyClusters) (not_imported room)
     import_many h =
         import_is
         ∙ ap₂ (λ (a b : Bool). ended_by (told a b is_short)) good (T_true is_many (lt→ltb narrow.rows (length (sheet_rows s)) h))
@@ -73,24 +72,25 @@ module _ (s room : List ℕ) where
           ∙ ap (λ (b : Bool). ended_by (told false false b)) e
 
       pub import_short : length room < length (sheet_rows s) * record_bytes
-          → import_sheet s room ≡ outcome_of (Refused NoRoom) (not_imported room)
+          → import_sheet s room ≡ outcome_of (Err NoRoom) (not_imported room)
       import_short h =
           last true (T_true is_short (lt→ltb (length room) (length (sheet_bytes s)) (omega (arith, h, bytes-length))))
 
       pub import_done : length (sheet_rows s) * record_bytes ≤ length room
-          → import_sheet s room ≡ outcome_of (Done (length (sheet_rows s))) (imported s room)
+          → import_sheet s room ≡ outcome_of (Ok (length (sheet_rows s))) (imported s room)
       import_done h =
           last false
           (T_false is_short (λ t. omega (arith, h, bytes-length, ltb→lt (length room) (length (sheet_bytes s)) t)))
 
   -- ---- asking for it
-  pub import_told : {r : Import} {m : List ℕ} {n : ℕ} → import_of r m ≡ import_sheet s room → r.answer ≡ Done n
-      → n * record_bytes ≤ length room
-  import_told {r} {m} {n} e a =
+  pub import_told : {r : Result Import Refusal} (m : List ℕ) {i : Import} → import_of r m ≡ import_sheet s room → r ≡ Ok i
+      → i.records * record_bytes ≤ length room
+  import_told {r} m {i} e a =
       let reasons = import_reasons s room in
-      let given : Imported = record { unread = r.unread; room = m } in
-      let done : outcome_of (Done n) given ≡ ended_by (first_reason reasons) =
-      ap (λ (b : Answer). outcome_of b given) (sym a) ∙ e ∙ import_is in
+      let n = i.records in
+      let given : Imported = record { unread = i.unread; room = m } in
+      let done : outcome_of (Ok n) given ≡ ended_by (first_reason reasons) =
+      ap (λ (x : Result Import Refusal). import_of x m) (sym a) ∙ e ∙ import_is in
       let untold = (ended_done (first_reason reasons) (not_imported room) (length (sheet_rows s)) (imported s room) n given (sym done)).0 in
       let records : n ≡ length (sheet_rows s) = ap (λ (o : Outcome Imported). o.sent.told) (done ∙ ap ended_by untold) in
       let fits = nltb→le (length room) (length (sheet_bytes s)) (not_T is_short ((none_iff reasons).0 untold).1.1.0) in

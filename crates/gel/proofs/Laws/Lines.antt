@@ -1,30 +1,28 @@
--- The lines of a sheet, and where its marks end: `specs/Lines.antt` and the first part of `specs/Form.antt`.
+-- The lines of a sheet: `specs/Lines.antt` and the first part of `specs/Form.antt`.
 --     lines-some        bytes are a line at least
---     marks_high        where the marks end lies no further than the end of the sheet
---     marks-none, marks-more     whether the marks from a place on reach another, one byte further at a time
---     line-short, line-broken, line-whole     the test of a line, as the code finds out
+--     fold-every        all bytes tested, whatever is found
+--     line_parts        the test of a line, part by part
 --     LineFrom s at w   a line of w marks starts at a place, and the lines of what follows it are the further ones
---     line_found        where the test passes
---     line-ended        where the first line from a place on has marks alone and LF, its marks end at its LF, and the test passes
+--     line_found        where the bytes from a place on pass the test
+--     line-ended        where the first line from a place on has marks alone and LF, so many marks stand there, and its bytes pass the test
 -- Assumes nothing.
 use mathlib.Core.Path.{◌≡◌, refl, sym, ap, ap₂, ◌∙◌, subst}
-use mathlib.Core.Logic.{◌≢◌}
-use mathlib.Core.Bool.{Bool, true, false, not, cond, true≢false, ◌&&◌}
+use mathlib.Core.Bool.{Bool, true, false, cond, true≢false, ◌&&◌, and-true}
 use mathlib.Core.List.{List, [], ◌∷◌, ◌++◌}
-use Prim.Native.Nat.{ℕ, ◌+◌, ◌-◌, ◌≤◌, ◌<◌}
-use borrow.Author.Tests.{eqb-true, eq-eqb, ne_eqb, not-true, not-false}
-use native.Mathlib.Decide.{dec_le}
+use Prim.Native.Nat.{ℕ, ◌+◌, ◌≤◌}
+use borrow.Author.Tests.{eqb-true, eq-eqb, ne_eqb}
+use native.Mathlib.Decide.{ℕ_discrete}
 use native.Mathlib.Numerals.{add-one}
 use native.Mathlib.Omega.{arith}
-use lib.Dec.{T, eqb, leb, eqb→eq, leb→le, le→leb}
-use lib.ListN.{length, get_or, take, drop, length-append, length-drop, get_or-eq_default, get_or-append}
-use lib.Seq.{split_at, length-take-le, get_or-append_seam, get_or-take, get_or-drop, drop-drop}
+use lib.Dec.{T, eqb, eqb→eq}
+use lib.ListN.{length, get_or, take, drop, length-append, length-drop, length-take}
+use lib.Seq.{split_at, take_at, take-append-add, get_or-append_seam, get_or-take, drop-drop}
+use Rattle.std.specs.List.{fold, prefix_len}
+use Rattle.std.proofs.lemmas.Grind.{common_steps}
 use Rattle.laws.specs.Lists.{every}
-use Rattle.laws.proofs.Places.{every→at, at→every}
-use Rattle.laws.proofs.First.{first-low, first_high, first-before, first_at, first_of}
-use Rattle.laws.proofs.Tests.{T_and, and_T, T_true, true_T, bool_ext}
+use Rattle.laws.proofs.Tests.{T_and, T_true, true_T}
 use Rattle.gel.specs.Lines.{line_end, is_mark, Line, no_line, in_front, lines_of, line_count, line_at}
-use Rattle.gel.specs.Form.{marks_end, is_line}
+use Rattle.gel.specs.Form.{is_line}
 
 -- ---- the first line
 
@@ -66,124 +64,74 @@ line-apart (b ∷ r) h = go (eqb b line_end) refl (lines_of r) (line-apart r) h
     go false e [] ih k = absurd (true≢false (sym k))
     go false e (x ∷ ls) ih k = let q = ih k in (q.0, ap (λ (l : List ℕ). b ∷ l) q.1)
 
+-- ---- tests of bytes
+
+and_assoc : (a b c : Bool) → (a && b && c) ≡ (a && (b && c))
+and_assoc true b c = refl
+and_assoc false b c = refl
+
+pub fold-every : (p : ℕ → Bool) (a : Bool) (x : List ℕ) → fold (λ whole b. whole && p b) a x ≡ (a && every p x)
+fold-every p a [] = sym (and-true a)
+fold-every p a (b ∷ x) = fold-every p (a && p b) x ∙ and_assoc a (p b) (every p x)
+
+-- marks end at LF
+marks-end : (m rest : List ℕ) → T (every is_mark m) → prefix_len is_mark (m ++ line_end ∷ rest) ≡ length m
+marks-end [] rest h = refl
+marks-end (b ∷ m) rest h = let q = T_and (is_mark b) (every is_mark m) h in rw (T_true (is_mark b) q.0, marks-end m rest q.1) (omega arith)
+
+-- the bytes before the last, and the last
+long_parts : (m : List ℕ) (e : ℕ) → length (m ++ e ∷ []) ≡ length m + 1
+long_parts m e = omega (arith, length-append m (e ∷ []))
+
+pub line_parts : (m : List ℕ) (e w : ℕ) → is_line (m ++ e ∷ []) w ≡ (eqb (length m) w && eqb e line_end && every is_mark m)
+line_parts m e w = go (ℕ_discrete (length m) w)
+  where
+    same : is_line (m ++ e ∷ []) (length m) ≡ (eqb (length m) (length m) && eqb e line_end && every is_mark m)
+    same =
+        rw (
+          eq-eqb (length (m ++ e ∷ [])) (length m + 1) (long_parts m e),
+          eq-eqb (length m) (length m) refl,
+          get_or-append_seam m e [] 0,
+          take_at m (e ∷ []) (length m) refl,
+        )
+
+    go : Dec (length m ≡ w) → is_line (m ++ e ∷ []) w ≡ (eqb (length m) w && eqb e line_end && every is_mark m)
+    go (yes q) = subst (λ (k : ℕ). is_line (m ++ e ∷ []) k ≡ (eqb (length m) k && eqb e line_end && every is_mark m)) q same
+    go (no n) =
+        rw (ne_eqb (length (m ++ e ∷ [])) (w + 1) (λ q. n (omega (arith, q, long_parts m e))), ne_eqb (length m) w n)
+
+-- ---- a line
+
+take-take : (i j : ℕ) (l : List ℕ) → i ≤ j → take i (take j l) ≡ take i l
+take-take i j l h = grind (arith, common_steps)
+
 module _ (s : List ℕ) (at : ℕ) where
-  -- ---- where marks end
-  marks-low : at ≤ marks_end s at
-  marks-low = first-low (λ i. not (is_mark (get_or s i 0))) at (length s - at)
-
-  pub marks_high : at ≤ length s → marks_end s at ≤ length s
-  marks_high h = omega (arith, first_high (λ i. not (is_mark (get_or s i 0))) at (length s - at))
-
-  marks-mark : (j : ℕ) → at ≤ j → j < marks_end s at → T (is_mark (get_or s j 0))
-  marks-mark j h k = true_T (not-false (is_mark (get_or s j 0)) (first-before (λ i. not (is_mark (get_or s i 0))) at (length s - at) j h k))
-
-  marks_stopped : marks_end s at < length s → at ≤ length s → is_mark (get_or s (marks_end s at) 0) ≡ false
-  marks_stopped h k = not-true _ (first_at (λ i. not (is_mark (get_or s i 0))) at (length s - at) (omega arith))
-
-  -- ---- whether they reach a place
-  pub marks-none : true ≡ leb at (marks_end s at)
-  marks-none = sym (T_true (leb at (marks_end s at)) (le→leb at (marks_end s at) marks-low))
-
-  pub marks-more : (i : ℕ) → at ≤ i → i < length s → (leb i (marks_end s at) && is_mark (get_or s i 0)) ≡ leb (i + 1) (marks_end s at)
-  marks-more i h k = bool_ext (leb i (marks_end s at) && is_mark (get_or s i 0)) (leb (i + 1) (marks_end s at)) to from
-    where
-      to : T (leb i (marks_end s at) && is_mark (get_or s i 0)) → T (leb (i + 1) (marks_end s at))
-      to t = go (dec_le (i + 1) (marks_end s at))
-        where
-          tests : T (leb i (marks_end s at)) × T (is_mark (get_or s i 0))
-          tests = T_and (leb i (marks_end s at)) (is_mark (get_or s i 0)) t
-
-          go : Dec (i + 1 ≤ marks_end s at) → T (leb (i + 1) (marks_end s at))
-          go (yes a) = le→leb (i + 1) (marks_end s at) a
-          go (no a) =
-              let here : marks_end s at ≡ i = omega (arith, leb→le i (marks_end s at) tests.0) in
-              let stopped = ap (λ (n : ℕ). is_mark (get_or s n 0)) (sym here) ∙ marks_stopped (omega arith) (omega arith) in
-              absurd (subst T stopped tests.1)
-
-      from : T (leb (i + 1) (marks_end s at)) → T (leb i (marks_end s at) && is_mark (get_or s i 0))
-      from t =
-          let a = leb→le (i + 1) (marks_end s at) t in
-          and_T (leb i (marks_end s at)) (is_mark (get_or s i 0)) (le→leb i (marks_end s at) (omega arith)) (marks-mark i h (omega arith))
-
-  -- ---- the test of a line, as the code comes to it
-  line_other : (w : ℕ) → marks_end s at - at ≢ w → is_line s at w ≡ false
-  line_other w h = rw (ne_eqb (marks_end s at - at) w h)
-
-  -- the end of the sheet isn't LF
-  open_end : length s ≤ marks_end s at → eqb (get_or s (marks_end s at) 0) line_end ≡ false
-  open_end h = ap (λ (b : ℕ). eqb b line_end) (get_or-eq_default s 0 h)
-
-  line_open : (w : ℕ) → marks_end s at - at ≡ w → marks_end s at ≡ length s → is_line s at w ≡ false
-  line_open w e h = rw (eq-eqb (marks_end s at - at) w e, open_end (omega arith))
-
-  line-told : (w : ℕ) → marks_end s at - at ≡ w → is_line s at w ≡ eqb (get_or s (marks_end s at) 0) line_end
-  line-told w e = rw (eq-eqb (marks_end s at - at) w e)
-
-  -- the sheet ends before a line could
-  pub line-short : (w : ℕ) → at ≤ length s → length s - at ≤ w → is_line s at w ≡ false
-  line-short w h k = go (dec_le w (marks_end s at - at))
-    where
-      go : Dec (w ≤ marks_end s at - at) → is_line s at w ≡ false
-      go (yes a) =
-          let high = marks_high h in
-          line_open w (omega (arith, high)) (omega (arith, high, marks-low))
-      go (no a) = line_other w (λ (e : marks_end s at - at ≡ w). omega arith)
-
-  -- a byte on the way is no mark
-  pub line-broken : (w : ℕ) → leb (at + w) (marks_end s at) ≡ false → is_line s at w ≡ false
-  line-broken w h =
-      line_other w
-      (λ (e : marks_end s at - at ≡ w). subst T h (le→leb (at + w) (marks_end s at) (omega (arith, marks-low, e))))
-
-  -- all are marks, and the byte behind them tells
-  pub line-whole : (w : ℕ) → leb (at + w) (marks_end s at) ≡ true → eqb (get_or s (at + w) 0) line_end ≡ is_line s at w
-  line-whole w h = go (dec_le (marks_end s at) (at + w))
-    where
-      reach : at + w ≤ marks_end s at
-      reach = leb→le (at + w) (marks_end s at) (true_T h)
-
-      go : Dec (marks_end s at ≤ at + w) → eqb (get_or s (at + w) 0) line_end ≡ is_line s at w
-      go (yes a) =
-          let here : at + w ≡ marks_end s at = omega (arith, reach) in
-          ap (λ (i : ℕ). eqb (get_or s i 0) line_end) here ∙ sym (line-told w (omega (arith, here)))
-      go (no a) =
-          mark-inside (get_or s (at + w) 0) (marks-mark (at + w) (omega arith) (omega arith))
-          ∙ sym (line_other w (λ (e : marks_end s at - at ≡ w). omega (arith, e)))
-
-  -- ---- a line
   pub record LineFrom (w : ℕ) : Type 0 where
     pub within : at + (w + 1) ≤ length s
     pub marks : T (every is_mark (take w (drop at s)))
     pub lines : lines_of (drop at s) ≡ record { bytes = take w (drop at s); ends = true } ∷ lines_of (drop (at + (w + 1)) s)
 
-  -- where the test passes
-  module _ (w : ℕ) (h : is_line s at w ≡ true) where
-    tests : T (eqb (marks_end s at - at) w) × T (eqb (get_or s (marks_end s at) 0) line_end)
-    tests = T_and (eqb (marks_end s at - at) w) (eqb (get_or s (marks_end s at) 0) line_end) (true_T h)
+  -- where the bytes pass the test
+  module _ (w : ℕ) (within : at ≤ length s) (h : is_line (take (w + 1) (drop at s)) w ≡ true) where
+    abbrev x : List ℕ
+    x = take (w + 1) (drop at s)
 
-    end_is : marks_end s at ≡ at + w
-    end_is = omega (arith, marks-low, eqb→eq (marks_end s at - at) w tests.0)
+    tests : (T (eqb (length x) (w + 1)) × T (eqb (get_or x w 0) line_end)) × T (every is_mark (take w x))
+    tests =
+        let q = T_and (eqb (length x) (w + 1) && eqb (get_or x w 0) line_end) (every is_mark (take w x)) (true_T h) in
+        (T_and (eqb (length x) (w + 1)) (eqb (get_or x w 0) line_end) q.0, q.1)
 
     in_sheet : at + (w + 1) ≤ length s
-    in_sheet = go (dec_le (length s) (marks_end s at))
-      where
-        go : Dec (length s ≤ marks_end s at) → at + (w + 1) ≤ length s
-        go (yes k) = absurd (subst T (open_end k) tests.1)
-        go (no k) = omega (arith, end_is)
+    in_sheet = omega (arith, within, eqb→eq (length x) (w + 1) tests.0.0, length-drop at s, length-take (w + 1) (drop at s))
 
-    all-marks : T (every is_mark (take w (drop at s)))
-    all-marks = at→every is_mark (take w (drop at s)) mark
-      where
-        long : length (take w (drop at s)) ≡ w
-        long = length-take-le w (drop at s) (omega (arith, length-drop at s, in_sheet))
-
-        mark : (j : ℕ) → j < length (take w (drop at s)) → T (is_mark (get_or (take w (drop at s)) j 0))
-        mark j k =
-            let e = get_or-take w (drop at s) j 0 (omega (arith, long)) ∙ get_or-drop at s j 0 in
-            subst (λ (b : ℕ). T (is_mark b)) (sym e) (marks-mark (at + j) (omega arith) (omega (arith, long, end_is)))
+    front : take w x ≡ take w (drop at s)
+    front = take-take w (w + 1) (drop at s) (omega arith)
 
     last : get_or (drop at s) w 0 ≡ line_end
-    last = get_or-drop at s w 0 ∙ ap (λ (i : ℕ). get_or s i 0) (sym end_is) ∙ eqb→eq (get_or s (marks_end s at) 0) line_end tests.1
+    last = sym (get_or-take (w + 1) (drop at s) w 0 (omega arith)) ∙ eqb→eq (get_or x w 0) line_end tests.0.1
+
+    all-marks : T (every is_mark (take w (drop at s)))
+    all-marks = subst (λ (l : List ℕ). T (every is_mark l)) front tests.1
 
     parts : drop at s ≡ take w (drop at s) ++ line_end ∷ drop (at + (w + 1)) s
     parts =
@@ -198,34 +146,19 @@ module _ (s : List ℕ) (at : ℕ) where
       lines = ap lines_of parts ∙ lines-ended (take w (drop at s)) (drop (at + (w + 1)) s) all-marks;
     }
 
-  -- where the first line has marks alone, and LF
-  module _ (m rest : List ℕ) (split : drop at s ≡ m ++ line_end ∷ rest) (marks : T (every is_mark m)) where
-    byte : (j : ℕ) → get_or s (at + j) 0 ≡ get_or (m ++ line_end ∷ rest) j 0
-    byte j = sym (get_or-drop at s j 0) ∙ ap (λ (l : List ℕ). get_or l j 0) split
+-- where the first line has marks alone, and LF
+pub line-ended : (r : List ℕ) → (line_at r 0).ends ≡ true → T (every is_mark (line_at r 0).bytes)
+    → let w = length (line_at r 0).bytes in (prefix_len is_mark r ≡ w) × (is_line (take (w + 1) r) w ≡ true)
+line-ended r e h = (ap (prefix_len is_mark) q.1 ∙ marks-end m q.0 h, ap (λ (l : List ℕ). is_line l (length m)) front ∙ line)
+  where
+    q : (rest : List ℕ) × (r ≡ (line_at r 0).bytes ++ line_end ∷ rest)
+    q = line-apart r e
 
-    end_byte : get_or s (at + length m) 0 ≡ line_end
-    end_byte = byte (length m) ∙ get_or-append_seam m line_end rest 0
+    m : List ℕ
+    m = (line_at r 0).bytes
 
-    inner : (i : ℕ) → at ≤ i → i < at + length m → not (is_mark (get_or s i 0)) ≡ false
-    inner i h k =
-        let back : i ≡ at + (i - at) = omega arith in
-        let same = ap (λ (n : ℕ). get_or s n 0) back ∙ byte (i - at) ∙ get_or-append m (line_end ∷ rest) 0 (i - at) (omega arith) in
-        ap not (ap is_mark same ∙ T_true _ (every→at is_mark m marks (i - at) (omega arith)))
+    front : take (length m + 1) r ≡ m ++ line_end ∷ []
+    front = ap (take (length m + 1)) q.1 ∙ take-append-add m (line_end ∷ q.0) 1
 
-    marks_stop : marks_end s at ≡ at + length m
-    marks_stop =
-        let inside : at + length m < length s = omega (arith, length-drop at s, ap length split, length-append m (line_end ∷ rest)) in
-        first_of (λ i. not (is_mark (get_or s i 0))) at (length s - at) (at + length m) (omega arith) (omega arith)
-        (ap (λ (b : ℕ). not (is_mark b)) end_byte) inner
-
-    line_stop : is_line s at (length m) ≡ true
-    line_stop =
-        line-told (length m) (omega (arith, marks_stop))
-        ∙ ap (λ (b : ℕ). eqb b line_end) (ap (λ (i : ℕ). get_or s i 0) marks_stop ∙ end_byte)
-
-  pub line-ended : (line_at (drop at s) 0).ends ≡ true → T (every is_mark (line_at (drop at s) 0).bytes)
-      → let w = length (line_at (drop at s) 0).bytes in (marks_end s at ≡ at + w) × (is_line s at w ≡ true)
-  line-ended e h =
-      let q = line-apart (drop at s) e in
-      let m = (line_at (drop at s) 0).bytes in
-      (marks_stop m q.0 q.1 h, line_stop m q.0 q.1 h)
+    line : is_line (m ++ line_end ∷ []) (length m) ≡ true
+    line = line_parts m line_end (length m) ∙ rw (eq-eqb (length m) (length m) refl, T_true (every is_mark m) h)

@@ -38,7 +38,7 @@ use Rattle.gel.specs.Lines.{line_max, width_max, line_count, width_of}
 use Rattle.gel.specs.Columns.{is_unread, cluster_of, all_of, all_lines, mark_at, column_at, columns_of}
 use Rattle.gel.specs.Columns.{scores_of, sheet_clusters, row_of_cluster, sheet_rows}
 use Rattle.gel.specs.Form.{Formed}
-use Rattle.gel.specs.Tally.{key_unit, key_at, key_for, TallyIs, Key, Keys, row_of_key, rows_from}
+use Rattle.gel.specs.Tally.{key_unit, key_at, key_for, TallyIs, Key, Keys, row_of_key, rows_of_keys}
 use Rattle.gel.proofs.Laws.Columns.{cluster-lt}
 use Rattle.gel.proofs.Laws.Counted.{count-le, key_cluster, key_count}
 use Rattle.gel.proofs.Laws.Gathered.{mem-gathered, mem_of_gathered, gathered-falls}
@@ -141,24 +141,23 @@ module _ (s : List ℕ) (z : Sized s) where
 
   -- ---- the tally of the sheet
   module _ (t : Tally) (a : TallyIs s t) where
-    pub tally_length : t.rows ≡ length (sheet_rows s)
+    pub tally_length : length t.keys.items ≡ length (sheet_rows s)
     tally_length =
-        sym (down_length (key_at t.keys) t.rows)
+        sym (down_length (key_at t.keys.items) (length t.keys.items))
         ∙ ap length a.keys
         ∙ length-map (sheet_clusters s) (key_for (scores_of s))
         ∙ sym made_length
 
-    pub tally_rows : rows_from t.keys t.rows ≡ sheet_rows s
+    pub tally_rows : rows_of_keys t.keys.items ≡ sheet_rows s
     tally_rows =
-        sym (down_map row_of_key (key_at t.keys) t.rows)
+        sym (down_map row_of_key (key_at t.keys.items) (length t.keys.items))
         ∙ ap (map row_of_key) a.keys
         ∙ map-through (key_for (scores_of s)) row_of_key (row_of_cluster s) row_of_key_lem (sheet_clusters s)
 
-    pub tally_keys : Keys t.keys t.rows
+    pub tally_keys : Keys t.keys.items
     tally_keys = record {
-      few = a.few;
       each = λ i h.
           let q = Memᴰ.of_map (key_for (scores_of s)) (sheet_clusters s)
-          (subst (Mem (key_at t.keys i)) a.keys (down_mem (key_at t.keys) t.rows i h)) in
+          (subst (Mem (key_at t.keys.items i)) a.keys (down_mem (key_at t.keys.items) (length t.keys.items) i h)) in
           subst Key q.2 (key_of q.0 q.1);
     }

@@ -2,10 +2,9 @@
 --     row_of_key-rules         the row of a key that can be written keeps the record rules
 --     row_bytes ks i          the records of the first i keys
 --     row_bytes_length        how many bytes they have
---     PutTo ks room₀ n room i at     the first i of n records stand at the start of the room, up to a place
---     put-none, put-more     the writing begins, and one record more is written
+--     PutTo ks room₀ room i     the first i records stand at the start of the room
+--     put-more               one record more is written
 --     put-length, put-fits   the room keeps its length, and has room for the next record
---     put_all                all records are written
 -- Assumes nothing.
 use mathlib.Core.Path.{◌≡◌, refl, sym, ap, ap₂, ◌∙◌, subst}
 use mathlib.Core.Bool.{false}
@@ -24,7 +23,7 @@ use Rattle.laws.specs.State.{scored}
 use Rattle.laws.proofs.Down.{down_length}
 use Rattle.laws.proofs.Tests.{T_true}
 use Rattle.laws.proofs.Width.{narrow_facts}
-use Rattle.answers.specs.declared.refusal.Answer.{Answer}
+use Rattle.answers.specs.Refusal.{Answer}
 use Rattle.answers.specs.Outcome.{Outcome, outcome_of, put_into}
 use Rattle.cluster.specs.declared.record.Record.{Record}
 use Rattle.cluster.specs.Record.{record_bytes, row_in, bytes_of}
@@ -66,70 +65,61 @@ module _ (ks : List ℕ) where
       written-length narrow narrow_facts (rows_from ks i)
       ∙ ap (λ (m : ℕ). m * record_bytes) (down_length (λ (j : ℕ). row_of_key (key_at ks j)) i)
 
-  module _ (room₀ : List ℕ) (n : ℕ) where
-    pub record PutTo (room : List ℕ) (i at : ℕ) : Type 0 where
-      pub high : i ≤ n
-      pub place : at ≡ i * record_bytes
-      pub put : room ≡ put_into (row_bytes i) room₀
+  module _ (room₀ : List ℕ) where
+    abbrev pub PutTo : List ℕ → ℕ → Type 0
+    PutTo room i = room ≡ put_into (row_bytes i) room₀
 
-    pub put-none : PutTo room₀ 0 0
-    put-none = record { high = omega arith; place = omega arith; put = refl }
+    module _ (fits : length ks * record_bytes ≤ length room₀) (room : List ℕ) (i : ℕ) (more : i < length ks) (p : PutTo room i) where
+      abbrev at : ℕ
+      at = i * record_bytes
 
-    pub put_all : (room : List ℕ) (i at : ℕ) → PutTo room i at → n ≤ i → room ≡ put_into (row_bytes n) room₀
-    put_all room i at p h = let e : i ≡ n = omega (arith, p.high) in p.put ∙ ap (λ (m : ℕ). put_into (row_bytes m) room₀) e
-
-    module _ (fits : n * record_bytes ≤ length room₀) (room : List ℕ) (i at : ℕ) (p : PutTo room i at) where
       ends : length (row_bytes i) ≡ at
-      ends = row_bytes_length i ∙ sym p.place
+      ends = row_bytes_length i
 
-      short : length (row_bytes i) ≤ length room₀
-      short = omega (arith, row_bytes_length i, mul-le-mul_right record_bytes p.high)
+      due : at + record_bytes ≤ length ks * record_bytes
+      due = omega (arith, suc-mul i record_bytes, mul-le-mul_right record_bytes more)
 
       pub put-length : length room ≡ length room₀
       put-length =
-          ap length p.put
-          ∙ length_front room₀ (row_bytes i) (length (row_bytes i)) (sym (length-take-le (length (row_bytes i)) room₀ short))
+          ap length p
+          ∙ length_front room₀ (row_bytes i) (length (row_bytes i))
+          (sym (length-take-le (length (row_bytes i)) room₀ (omega (arith, ends, due, fits))))
 
       before : take at room ≡ row_bytes i
-      before = ap (take at) p.put ∙ take_at (row_bytes i) (drop (length (row_bytes i)) room₀) at ends
+      before = ap (take at) p ∙ take_at (row_bytes i) (drop (length (row_bytes i)) room₀) at ends
 
       behind : drop at room ≡ drop at room₀
       behind =
-          ap (drop at) p.put
+          ap (drop at) p
           ∙ drop_at (row_bytes i) (drop (length (row_bytes i)) room₀) at ends
           ∙ ap (λ (k : ℕ). drop k room₀) ends
 
-      module _ (more : i < n) where
-        pub put-fits : at + record_bytes ≤ length room
-        put-fits = omega (arith, put-length, p.place, suc-mul i record_bytes, mul-le-mul_right record_bytes more)
+      pub put-fits : at + record_bytes ≤ length room
+      put-fits = omega (arith, put-length, due, fits)
 
-        pub put-more : Keys ks n → (r : Record) → row_in r ≡ row_of_key (key_at ks i) → (a : Answer) (part : List ℕ)
-            → outcome_of a part ≡ write_record r (mid_of at (at + record_bytes - at) room)
-            → PutTo (put_mid at (at + record_bytes - at) room part) (i + 1) (at + record_bytes)
-        put-more keys r is a part told = rw (add-one i) (record {
-          high = more;
-          place = omega (arith, p.place, suc-mul i record_bytes);
-          put =
-              rw (back, before, behind, came)
-              (sym (append_assoc (row_bytes i) next (drop record_bytes (drop at room₀)))
-              ∙ ap (λ (l : List ℕ). (row_bytes i ++ next) ++ l) rest);
-        })
-          where
-            next : List ℕ
-            next = bytes_of narrow (row_of_key (key_at ks i))
+      pub put-more : Keys ks → (r : Record) → row_in r ≡ row_of_key (key_at ks i) → (a : Answer) (part : List ℕ)
+          → outcome_of a part ≡ write_record r (mid_of at (at + record_bytes - at) room)
+          → PutTo (put_mid at (at + record_bytes - at) room part) (i + 1)
+      put-more keys r is a part told =
+          rw (add-one i, back, before, behind, came)
+          (sym (append_assoc (row_bytes i) next (drop record_bytes (drop at room₀)))
+          ∙ ap (λ (l : List ℕ). (row_bytes i ++ next) ++ l) rest)
+        where
+          next : List ℕ
+          next = bytes_of narrow (row_of_key (key_at ks i))
 
-            back : at + record_bytes - at ≡ record_bytes
-            back = omega arith
+          back : at + record_bytes - at ≡ record_bytes
+          back = omega arith
 
-            lent : length (mid_of at record_bytes room) ≡ record_bytes
-            lent = length-take-le record_bytes (drop at room) (omega (arith, length-drop at room, put-fits))
+          lent : length (mid_of at record_bytes room) ≡ record_bytes
+          lent = length-take-le record_bytes (drop at room) (omega (arith, length-drop at room, put-fits))
 
-            came : part ≡ next
-            came = one_written r (key_at ks i) (keys.each i more) is a part (mid_of at record_bytes room) lent (rw back at told)
+          came : part ≡ next
+          came = one_written r (key_at ks i) (keys.each i more) is a part (mid_of at record_bytes room) lent (rw back at told)
 
-            after : length (row_bytes (suc i)) ≡ at + record_bytes
-            after = row_bytes_length (suc i) ∙ omega (arith, p.place, suc-mul i record_bytes)
+          after : length (row_bytes (suc i)) ≡ at + record_bytes
+          after = row_bytes_length (suc i) ∙ omega (arith, suc-mul i record_bytes)
 
-            -- what lies behind the next record is as it was
-            rest : drop record_bytes (drop at room₀) ≡ drop (length (row_bytes (suc i))) room₀
-            rest = drop-drop record_bytes at room₀ ∙ ap (λ (k : ℕ). drop k room₀) (sym after)
+          -- what lies behind the next record is as it was
+          rest : drop record_bytes (drop at room₀) ≡ drop (length (row_bytes (suc i))) room₀
+          rest = drop-drop record_bytes at room₀ ∙ ap (λ (k : ℕ). drop k room₀) (sym after)

@@ -19,7 +19,7 @@ use Rattle.laws.proofs.Integers.{zero_of_abs}
 use Rattle.laws.proofs.Tests.{T_and, and_T, bool_ext, eq→eqb}
 use Rattle.trees.specs.Rows.{Entry}
 use Rattle.trees.specs.Result.{Result, blank}
-use Rattle.kept.specs.declared.blank.Fields.{Fields}
+use Rattle.kept.specs.declared.fields.Fields.{Fields}
 use Rattle.kept.specs.declared.table.Table.{Table}
 use Rattle.kept.specs.View.{row_at, result_at, entry_at}
 use Rattle.kept.specs.Blank.{is_zero, is_nothing, is_blank, is_empty, empty_row}

@@ -4,21 +4,29 @@
 --     rises_once               no two of them are one cluster
 --     is_rising→, →is_rising     the test of it
 --     rising-more, rising_stop, rising_end     the test from the last cluster down
+--     sorted_is            the test as the code makes it, of each cluster and the next
+--     first_down, first_rising, first_ascend     the first clusters by themselves: from the largest down, their test, and that they ascend
 --     mark_down            the mark of row i among the first clusters
 --     every_marked_is, is_marked_in_is     the marks of the first rows, by row number
 -- Assumes nothing.
-use mathlib.Core.Path.{◌≡◌, refl, ap₂}
+use mathlib.Core.Path.{◌≡◌, refl, sym, ap, ap₂, ◌∙◌, subst}
 use mathlib.Core.Logic.{◌≢◌}
 use mathlib.Core.Bool.{Bool, true, false, not, ◌&&◌, ◌||◌, or-false}
 use mathlib.Core.List.{List, map}
 use mathlib.Core.List.{Memᴰ as Mem}
 use Prim.Native.Nat.{ℕ, zero, suc, ◌-◌, ◌^◌, ◌≤◌, ◌<◌}
 use native.Mathlib.Decide.{dec_le, ℕ_discrete}
+use native.Mathlib.Numerals.{add-one}
 use native.Mathlib.Omega.{arith}
 use borrow.Author.Tests.{eq-eqb, ne_eqb, lt-ltb, le-ltb}
 use lib.Dec.{T, eqb, ltb, eqb→eq, ltb→lt, lt→ltb}
-use lib.ListN.{get_or}
-use Rattle.laws.proofs.Down.{down_length, down_map, mem_down, every→down, down→every, down_passed, down_stopped}
+use lib.ListN.{get_or, length, take}
+use Rattle.std.specs.List.{IsAllAdjacentAnswer}
+use Rattle.std.proofs.lemmas.List.{get_or-take, length-take-le}
+use Rattle.laws.specs.Lists.{every}
+use Rattle.laws.specs.Orders.{places}
+use Rattle.laws.proofs.Down.{down_length, down_ext, down_map, mem_down, every→down, down→every, down_passed, down_stopped}
+use Rattle.laws.proofs.Tests.{T_true, T_false, true_T}
 use Rattle.trees.specs.Result.{marks_in}
 use Rattle.trees.specs.Rows.{cl}
 use Rattle.trees.proofs.Sets.Families.{one}
@@ -32,6 +40,11 @@ use Rattle.kept.specs.Fields.{every_bit}
 
 pub clusters_are : (t : Table) (n : ℕ) → map cl (entries_of t n) ≡ clusters_down t.clusters n
 clusters_are t = down_map cl (entry_at t)
+
+-- tests that agree below n
+every_ext : (p q : ℕ → Bool) (n : ℕ) → ((i : ℕ) → i < n → p i ≡ q i) → every p (places n) ≡ every q (places n)
+every_ext p q zero h = refl
+every_ext p q (suc n) h = ap₂ ◌&&◌ (h n (omega arith)) (every_ext p q n (λ i l. h i (omega arith)))
 
 module _ (cs : List ℕ) where
   abbrev cluster_of : ℕ → ℕ
@@ -70,6 +83,14 @@ module _ (cs : List ℕ) where
       go (yes h) (no k) = absurd (omega (arith, up i j (omega arith) b, e))
       go (no h) k = absurd (omega (arith, up j i (omega arith) a, e))
 
+  pub sorted_is : (r : Bool) → IsAllAdjacentAnswer (λ (x y : ℕ) (b : Bool). b ≡ ltb x y) cs r → r ≡ is_rising cs (length cs)
+  sorted_is true up =
+      sym (T_true _ (down→every is_below (λ (j : ℕ). j) (length cs - 1) (λ j l. true_T (sym (rw add-one at (up j 0 (omega arith)))))))
+  sorted_is false down =
+      let k = down.0 in
+      let falls : is_below k ≡ false = rw add-one at (sym (down.2 0)) in
+      sym (T_false _ (λ h. subst T falls (every→down is_below (λ (j : ℕ). j) (length cs - 1) h k (omega (arith, down.1)))))
+
   -- the cluster before the last of i
   before_last : (i : ℕ) → 1 < i → suc (i - 1 - 1) ≡ i - 1
   before_last i h = omega arith
@@ -82,6 +103,30 @@ module _ (cs : List ℕ) where
 
   pub rising_end : (i : ℕ) → i ≤ 1 → is_rising cs i ≡ true
   rising_end i h = let e : i - 1 ≡ 0 = omega arith in rw e
+
+  -- ---- the first clusters by themselves
+  module _ (n : ℕ) (h : n ≤ length cs) where
+    long : length (take n cs) ≡ n
+    long = length-take-le n cs h
+
+    first_at : (i : ℕ) → i < n → get_or (take n cs) i 0 ≡ get_or cs i 0
+    first_at i l = get_or-take n cs i 0 l
+
+    pub first_down : clusters_down (take n cs) (length (take n cs)) ≡ clusters_down cs n
+    first_down = rw long (down_ext (λ (i : ℕ). get_or (take n cs) i 0) cluster_of n first_at)
+
+    pub first_rising : is_rising (take n cs) (length (take n cs)) ≡ is_rising cs n
+    first_rising =
+        ap (every (λ (i : ℕ). ltb (get_or (take n cs) i 0) (get_or (take n cs) (suc i) 0))) (ap (λ (k : ℕ). places (k - 1)) long)
+        ∙ every_ext _ is_below (n - 1) (λ i l. ap₂ ltb (first_at i (omega arith)) (first_at (suc i) (omega arith)))
+
+  pub first_ascend : (n : ℕ) → Rising cs n → Rising (take n cs) (length (take n cs))
+  first_ascend n r = record { long = omega arith; up = up }
+    where
+      up : (i j : ℕ) → i < j → j < length (take n cs) → get_or (take n cs) i 0 < get_or (take n cs) j 0
+      up i j k l =
+          let place : j < n = omega (arith, long n r.long) in
+          rw (first_at n r.long i (omega arith), first_at n r.long j place) (r.up i j k place)
 
   -- ---- marks by row number
   pub mark_down : (n i : ℕ) → Ascends n → i < n → marks_in (clusters_down cs n) (one (get_or cs i 0)) ≡ 2 ^ i

@@ -1,39 +1,50 @@
 -- A fit row and a fit table as facts. The results of a row: `Results.antt`.
 --     cluster_pos                       a cluster that keeps the record rules has a taxon
 --     fit→, →fit, fit-rules     a fit row
+--     row_in, fit_in     row i as it is read out of a table, and that the tests of it are those of the row
 --     right→, →right, right-more, right_stop, right-none     all rows; the same from the last down
+--     right_is                          the same as the code goes through them
 --     is_fit→, →is_fit, unfit     a fit table
+--     fit_tests                         the test as the code makes it
 --     fit-rows                          where degree bound, number and clusters are right, the rows tell
 --     fit-falls, fit-each, entries_rising     a fit table by the entries of its rows
 -- Assumes nothing.
-use mathlib.Core.Path.{◌≡◌, refl, subst}
-use mathlib.Core.Bool.{Bool, true, false}
+use mathlib.Core.Path.{◌≡◌, refl, sym, ap, ap₂, ◌∙◌, subst}
+use mathlib.Core.Bool.{Bool, true, false, ◌&&◌}
 use mathlib.Core.List.{List}
 use mathlib.Core.List.{Memᴰ as Mem}
-use Prim.Native.Nat.{ℕ, ◌-◌, ◌≤◌, ◌<◌}
+use Prim.Native.Nat.{ℕ, ◌+◌, ◌-◌, ◌≤◌, ◌<◌}
 use native.Mathlib.Decide.{dec_le}
 use native.Mathlib.Nat.{pos_of_ne-zero}
 use native.Mathlib.Omega.{arith}
 use borrow.Author.Tests.{le-leb, lt-leb}
 use lib.Dec.{T, leb, leb→le, le→leb}
-use lib.ListN.{get_or}
+use lib.ListN.{get_or, length, take}
+use Rattle.std.specs.List.{list_all, range_with_len}
+use Rattle.std.proofs.lemmas.List.FromFn.{length-range_with_len, get_or-range_with_len}
+use Rattle.std.proofs.lemmas.List.Sums.{AllPass-from_list_all, list_all-from_AllPass}
+use Rattle.std.proofs.lemmas.List.{get_or-take, length-take-le}
 use Rattle.laws.specs.Limits.{Width, is_degree, row_cap}
 use Rattle.laws.specs.Orders.{Falling}
 use Rattle.laws.specs.Row.{Row}
 use Rattle.laws.specs.Widths.{WidthFacts}
 use Rattle.laws.proofs.Down.{mem_down, every→down, down→every, down_passed, down_stopped, falling_down, down_falling}
-use Rattle.laws.proofs.Tests.{T_and, and_T, T_true, T_false}
+use Rattle.laws.proofs.Tests.{T_and, and_T, T_true, T_false, true_T, bool_ext}
 use Rattle.cluster.specs.Rule.{keeps_rules}
 use Rattle.cluster.proofs.Laws.Rule.{rules→, →rules}
 use Rattle.trees.specs.Rows.{Entry}
 use Rattle.trees.specs.Result.{Result}
+use Rattle.kept.specs.Blank.{is_empty}
 use Rattle.kept.specs.declared.table.Table.{Table}
 use Rattle.kept.specs.Facts.{FitRow, FitTable}
 use Rattle.kept.specs.View.{entry_at, entries_of, clusters_in, clusters_down}
 use Rattle.kept.specs.Results.{is_ranged, is_matched}
 use Rattle.kept.specs.Fit.{fit_entry, is_rising, is_row_right, has_right_rows, is_fit}
+use Rattle.kept.specs.declared.fields.Fields.{Fields}
+use Rattle.kept.specs.Fields.{entry_in, AtRow}
+use Rattle.kept.specs.Arrays.{Rising}
 use Rattle.kept.proofs.Laws.Blank.{empty_entry, entry_empty}
-use Rattle.kept.proofs.Laws.Clusters.{clusters_are, Ascends, is_rising→, →is_rising}
+use Rattle.kept.proofs.Laws.Clusters.{clusters_are, Ascends, is_rising→, →is_rising, first_down, first_rising, first_ascend}
 use Rattle.kept.proofs.Laws.Results.{ranged→, →ranged, matched→, →matched}
 
 -- ---- a row
@@ -61,6 +72,37 @@ module _ (W : Width) (cs : List ℕ) (e : Entry Result) where
       and_T (keeps_rules W e.row) _ (→rules W e.row f.width f.rules)
       (and_T (is_ranged W e.row e.val) _ (→ranged W e.row e.val f.ranged) (→matched cs e.row e.val f.matched))
 
+-- row i as it is read out of a table
+pub row_in : (t : Table) (i : ℕ) (r : Fields) → Rising t.clusters t.rows → t.rows ≤ row_cap → i < t.rows → entry_in r ≡ entry_at t i
+    → AtRow (take t.rows t.clusters) i r
+row_in t i r rises capped h e = record {
+  rising = first_ascend t.clusters t.rows rises;
+  capped = omega (arith, long);
+  place = omega (arith, long);
+  own = ap (λ (x : Entry Result). x.row.cluster) e ∙ sym (get_or-take t.rows t.clusters i 0 h);
+}
+  where
+    long : length (take t.rows t.clusters) ≡ t.rows
+    long = length-take-le t.rows t.clusters rises.long
+
+pub fit_in : (W : Width) (t : Table) (i : ℕ) (r : Fields) → t.rows ≤ length t.clusters → entry_in r ≡ entry_at t i
+    → fit_entry W (clusters_down (take t.rows t.clusters) (length (take t.rows t.clusters))) (entry_in r)
+    ≡ fit_entry W (clusters_in t) (entry_at t i)
+fit_in W t i r h e = ap₂ (fit_entry W) (first_down t.clusters t.rows h ∙ sym (clusters_are t t.rows)) e
+
+-- ---- what holds of each number of a range
+module _ (p : ℕ → Bool) (a n : ℕ) where
+  range→ : T (list_all p (range_with_len a n)) → (i : ℕ) → a ≤ i → i < a + n → T (p i)
+  range→ h i l m =
+      let same : get_or (range_with_len a n) (i - a) 0 ≡ i = get_or-range_with_len a n (i - a) 0 (omega arith) ∙ omega arith in
+      true_T (rw same at (AllPass-from_list_all p (range_with_len a n) (T_true _ h) (i - a) 0 (omega (arith, length-range_with_len a n))))
+
+  →range : ((i : ℕ) → a ≤ i → i < a + n → T (p i)) → T (list_all p (range_with_len a n))
+  →range f =
+      true_T (list_all-from_AllPass p (range_with_len a n) (λ k d l.
+      let place : k < n = omega (arith, length-range_with_len a n) in
+      rw (get_or-range_with_len a n k d place) (T_true _ (f (a + k) (omega arith) (omega arith)))))
+
 -- ---- all rows
 module _ (W : Width) (cs : List ℕ) (t : Table) (n : ℕ) where
   abbrev is_right : ℕ → Bool
@@ -86,6 +128,33 @@ module _ (W : Width) (cs : List ℕ) (t : Table) (n : ℕ) where
   pub right-none : has_right_rows W cs t n 0 ≡ true
   unfolding has_right_rows
   right-none = refl
+
+  -- the rows are fit, and the places past them empty, as the code goes through them
+  abbrev fits : ℕ → Bool
+  fits i = fit_entry W cs (entry_at t i)
+
+  abbrev empties : ℕ → Bool
+  empties i = is_empty (entry_at t i)
+
+  pub right_is : n ≤ row_cap
+      → (list_all fits (range_with_len 0 n) && list_all empties (range_with_len n (row_cap - n))) ≡ has_right_rows W cs t n row_cap
+  right_is h = bool_ext _ _ to from
+    where
+      to : T (list_all fits (range_with_len 0 n) && list_all empties (range_with_len n (row_cap - n))) → T (has_right_rows W cs t n row_cap)
+      to k = →right row_cap (λ i l. go i l (dec_le n i))
+        where
+          both : T (list_all fits (range_with_len 0 n)) × T (list_all empties (range_with_len n (row_cap - n)))
+          both = T_and (list_all fits (range_with_len 0 n)) _ k
+
+          go : (i : ℕ) → i < row_cap → Dec (n ≤ i) → T (is_right i)
+          go i l (yes m) = rw (le-leb n i m) (range→ empties n (row_cap - n) both.1 i m (omega arith))
+          go i l (no m) = rw (lt-leb n i (omega arith)) (range→ fits 0 n both.0 i (omega arith) (omega arith))
+
+      from : T (has_right_rows W cs t n row_cap) → T (list_all fits (range_with_len 0 n) && list_all empties (range_with_len n (row_cap - n)))
+      from k =
+          and_T (list_all fits (range_with_len 0 n)) _
+          (→range fits 0 n (λ i l m. let i_lt : i < n = omega arith in rw (lt-leb n i i_lt) at (right→ row_cap k i (omega arith))))
+          (→range empties n (row_cap - n) (λ i l m. rw (le-leb n i l) at (right→ row_cap k i (omega arith))))
 
 -- ---- a table
 module _ (W : Width) (facts : WidthFacts W) (t : Table) where
@@ -120,6 +189,22 @@ module _ (W : Width) (t : Table) where
       go : (i : ℕ) → i < row_cap → Dec (t.rows ≤ i) → T (is_row_right W (clusters_in t) t.rows i (entry_at t i))
       go i l (yes h) = rw (le-leb t.rows i h) (entry_empty (f.past i h l))
       go i l (no h) = rw (lt-leb t.rows i (omega arith)) (→fit W (clusters_in t) (entry_at t i) (f.fit i (omega arith)))
+
+  -- the tests, where it is told whether the clusters ascend
+  abbrev tests_of : Bool → Bool
+  tests_of rises =
+      is_degree t.degree && (leb 1 t.rows && (leb t.rows W.rows && (rises && has_right_rows W (clusters_in t) t t.rows row_cap)))
+
+  -- as the code makes them: the clusters of the rows by themselves
+  pub fit_tests : W.rows ≤ row_cap → length t.clusters ≡ row_cap
+      → is_fit W t ≡ tests_of (is_rising (take t.rows t.clusters) (length (take t.rows t.clusters)))
+  unfolding is_fit
+  fit_tests room long = go (dec_le t.rows W.rows)
+    where
+      go : Dec (t.rows ≤ W.rows)
+          → tests_of (is_rising t.clusters t.rows) ≡ tests_of (is_rising (take t.rows t.clusters) (length (take t.rows t.clusters)))
+      go (yes h) = ap tests_of (sym (first_rising t.clusters t.rows (omega arith)))
+      go (no h) = let e = lt-leb t.rows W.rows (omega arith) in rw e
 
   -- where degree bound, number and clusters are right, the rows tell
   pub fit-rows : T (is_degree t.degree) → 1 ≤ t.rows → t.rows ≤ W.rows → is_rising t.clusters t.rows ≡ true

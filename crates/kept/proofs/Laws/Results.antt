@@ -25,14 +25,13 @@ use Rattle.laws.specs.Row.{Row, is_scored}
 use Rattle.laws.proofs.Down.{down_length}
 use Rattle.laws.proofs.Tests.{T_and, and_T, T-or, or_l, or_r, imp→, →imp, else→, →else, eq→eqb}
 use Rattle.trees.specs.Result.{Result}
-use Rattle.kept.specs.declared.blank.Fields.{Fields}
+use Rattle.kept.specs.declared.fields.Fields.{Fields}
 use Rattle.kept.specs.View.{clusters_down}
 use Rattle.kept.specs.Blank.{is_blank}
 use Rattle.kept.specs.Marks.{has_mark, is_marked_in, are_inside}
 use Rattle.kept.specs.Results.{is_length, is_mark, is_ranged, is_light, is_matched}
-use Rattle.kept.specs.Arrays.{Rising}
 use Rattle.kept.specs.Facts.{Ranged, Matched}
-use Rattle.kept.specs.Fields.{listed_in, result_in, every_bit, is_mark_fit}
+use Rattle.kept.specs.Fields.{listed_in, result_in, every_bit, is_mark_fit, AtRow}
 use Rattle.kept.proofs.Laws.Blank.{nothing→, →nothing, is_blank→}
 use Rattle.kept.proofs.Laws.Clusters.{every_marked_is, is_marked_in_is}
 use Rattle.kept.proofs.Laws.Words.{words_are}
@@ -112,14 +111,14 @@ module _ (cs : List ℕ) (r : Row) (v : Result) where
           (and_T own_test _ (f.own n) (and_T (are_inside cs v.members r.cluster) _ marks (le→leb _ _ (f.light n))))
 
 -- ---- a count that isn't zero, as the code tests it
-abbrev pub matched_tests : List ℕ → ℕ → ℕ → Fields → Bool
-matched_tests cs n i r =
+abbrev pub matched_tests : List ℕ → ℕ → Fields → Bool
+matched_tests cs i r =
     has_mark (result_in r).members i
-    && (every_bit r.low 64 (is_mark_fit cs n r.cluster 0)
-    && (every_bit r.high 64 (is_mark_fit cs n r.cluster 64)
+    && (every_bit r.low 64 (is_mark_fit cs r.cluster 0)
+    && (every_bit r.high 64 (is_mark_fit cs r.cluster 64)
     && is_light r.best (size r.cluster)))
 
-module _ (cs : List ℕ) (n i : ℕ) (r : Fields) (small : r.low < word_values) (short : r.high < word_values) where
+module _ (cs : List ℕ) (i : ℕ) (r : Fields) (small : r.low < word_values) (short : r.high < word_values) where
   abbrev inner : ℕ → Bool
   inner j = inside (get_or cs j 0) r.cluster
 
@@ -127,20 +126,21 @@ module _ (cs : List ℕ) (n i : ℕ) (r : Fields) (small : r.low < word_values) 
   light_test = is_light r.best (size r.cluster)
 
   -- both words, by row number
-  inside_is : are_inside (clusters_down cs n) (result_in r).members r.cluster
-      ≡ (every_bit r.low 64 (is_mark_fit cs n r.cluster 0) && every_bit r.high 64 (is_mark_fit cs n r.cluster 64))
+  inside_is : are_inside (clusters_down cs (length cs)) (result_in r).members r.cluster
+      ≡ (every_bit r.low 64 (is_mark_fit cs r.cluster 0) && every_bit r.high 64 (is_mark_fit cs r.cluster 64))
   inside_is =
-      rw (down_length (λ (j : ℕ). get_or cs j 0) n, every_marked_is cs n (result_in r).members (λ c. inside c r.cluster))
-      (sym (words_are n inner r.low r.high small short))
+      rw (down_length (λ (j : ℕ). get_or cs j 0) (length cs), every_marked_is cs (length cs) (result_in r).members (λ c. inside c r.cluster))
+      (sym (words_are (length cs) inner r.low r.high small short))
 
-  pub matched_is : r.count ≢ 0 → Rising cs n → i < n → r.cluster ≡ get_or cs i 0
-      → is_matched (clusters_down cs n) (listed_in r) (result_in r) ≡ matched_tests cs n i r
-  matched_is e rises place own =
-      rw (ne_eqb _ _ e, inside_is, and_assoc (every_bit r.low 64 (is_mark_fit cs n r.cluster 0)) _ light_test)
-      (ap (λ (b : Bool). b && rest) (ap (is_marked_in (clusters_down cs n) (result_in r).members) own ∙ is_marked_in_is cs n _ i rises place))
+  pub matched_is : r.count ≢ 0 → AtRow cs i r
+      → is_matched (clusters_down cs (length cs)) (listed_in r) (result_in r) ≡ matched_tests cs i r
+  matched_is e at =
+      rw (ne_eqb _ _ e, inside_is, and_assoc (every_bit r.low 64 (is_mark_fit cs r.cluster 0)) _ light_test)
+      (ap (λ (b : Bool). b && rest) (ap (is_marked_in (clusters_down cs (length cs)) (result_in r).members) at.own
+      ∙ is_marked_in_is cs (length cs) _ i at.rising at.place))
     where
       rest : Bool
-      rest = every_bit r.low 64 (is_mark_fit cs n r.cluster 0) && (every_bit r.high 64 (is_mark_fit cs n r.cluster 64) && light_test)
+      rest = every_bit r.low 64 (is_mark_fit cs r.cluster 0) && (every_bit r.high 64 (is_mark_fit cs r.cluster 64) && light_test)
 
 -- ---- the bound of a best weight, as the code has it
 pub most_is : (n : ℕ) → 1 ≤ n → n ≤ 64 → pos weight_max *ℤ to_z w64 (2 * n - 1) ≡ pos (weight_max * (2 * n - 1))

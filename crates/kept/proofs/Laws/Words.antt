@@ -1,15 +1,24 @@
 -- One word of marks, walked by its set bits, and the two words of a row.
 --     every_bit→, →every_bit     each set bit passes a test
 --     every_bit-none, every_bit_fails, every_bit-drop     the walk over the set bits of a word
+--     mark_fit_is              one bit: the row that it marks is looked up, and its cluster tested
 --     words_are                the walks over two words: no mark past the rows, and each marked row passes
 -- Assumes nothing.
 use mathlib.Core.Path.{◌≡◌, sym, subst}
 use mathlib.Core.Logic.{◌⊎◌, inl, inr, ⊎_elim}
 use mathlib.Core.Bool.{Bool, true, false, not, ◌&&◌, ◌||◌}
+use mathlib.Core.List.{List}
 use Prim.Native.Nat.{ℕ, ◌+◌, ◌-◌, ◌*◌, ◌^◌, ◌≤◌, ◌<◌}
 use native.Mathlib.Decide.{dec_lt}
 use native.Mathlib.Omega.{arith}
+use borrow.Author.Tests.{lt-ltb, le-ltb}
 use lib.Dec.{T, ltb, ltb→lt, lt→ltb}
+use lib.ListN.{length, get_or}
+use denote.Ref.{Bor}
+use Rattle.std.specs.List.{HoldsAt}
+use Rattle.std.specs.Option.{MatchOption}
+use Rattle.std.proofs.Common.{Option, Some, None}
+use Rattle.laws.specs.Cluster.{inside}
 use Rattle.laws.specs.Limits.{word_values}
 use Rattle.laws.proofs.Down.{every→down, down→every}
 use Rattle.laws.proofs.Tests.{T_and, and_T, imp→, →imp, T_true, T_false, true_T, bool_ext}
@@ -47,6 +56,14 @@ module _ (n : ℕ) (p : ℕ → Bool) where
 
       back : T (every_bit (m - 2 ^ b) n p) → T (every_bit m n p)
       back k = →every_bit m n p (λ i l g. one i k l (mark_rest m b i h g))
+
+-- what is looked up in place j is there and lies inside c, as the code tests it
+pub mark_fit_is : (cs : List ℕ) (j c : ℕ) (found : Option (Bor ℕ)) (r : Bool)
+    → MatchOption found (length cs ≤ j) (λ (x : Bor ℕ). (j < length cs) × HoldsAt (λ (y : ℕ). x.now ≡ y) cs j)
+    → MatchOption found (r ≡ false) (λ (x : Bor ℕ). r ≡ inside x.now c)
+    → r ≡ (ltb j (length cs) && inside (get_or cs j 0) c)
+mark_fit_is cs j c None r past e = rw (le-ltb _ _ past, e)
+mark_fit_is cs j c (Some x) r at e = rw (lt-ltb _ _ at.0, e, at.1 0)
 
 -- ---- both words of a row
 module _ (n : ℕ) (p : ℕ → Bool) (lo hi : ℕ) (small : lo < word_values) (short : hi < word_values) where

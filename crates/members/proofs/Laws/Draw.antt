@@ -21,7 +21,7 @@ use Rattle.laws.specs.Limits.{Width}
 use Rattle.laws.proofs.Integers.{lt_z_irrefl, tri, Tri}
 use Rattle.laws.proofs.Tests.{T_and, and_T, T_true, T_false, neq→}
 use Rattle.trees.specs.Tree.{is_tree}
-use Rattle.answers.specs.declared.refusal.Answer.TheVariants.{Done, Refused}
+use Rattle.std.specs.Prelude.{Ok, Err}
 use Rattle.answers.specs.declared.refusal.Refusal.{Refusal}
 use Rattle.answers.specs.declared.refusal.Refusal.TheVariants.{NoTree, Unfit}
 use Rattle.answers.specs.Outcome.{Outcome, outcome_of, ended}
@@ -63,19 +63,19 @@ module _ (W : Width) (t : Table) where
   unfolding drawn_tree
   drawn_by e = ap (λ (f : Option Refusal). ended f no_members 0 (drawn_members t)) e
 
-  pub drawn_unfit : is_fit W t ≡ false → drawn_tree W t ≡ outcome_of (Refused Unfit) no_members
+  pub drawn_unfit : is_fit W t ≡ false → drawn_tree W t ≡ outcome_of (Err Unfit) no_members
   drawn_unfit e = drawn_by {f = some Unfit} (rw e)
 
-  pub drawn_no_tree : is_fit W t ≡ true → has_tree t ≡ false → drawn_tree W t ≡ outcome_of (Refused NoTree) no_members
+  pub drawn_no_tree : is_fit W t ≡ true → has_tree t ≡ false → drawn_tree W t ≡ outcome_of (Err NoTree) no_members
   drawn_no_tree e f = drawn_by {f = some NoTree} (rw (e, f))
 
-  pub drawn-marks : is_fit W t ≡ true → has_tree t ≡ true → is_drawable W t ≡ false → drawn_tree W t ≡ outcome_of (Refused Unfit) no_members
+  pub drawn-marks : is_fit W t ≡ true → has_tree t ≡ true → is_drawable W t ≡ false → drawn_tree W t ≡ outcome_of (Err Unfit) no_members
   drawn-marks e f g = drawn_by {f = some Unfit} (rw (e, f, g))
 
   pub nothing_refused : is_fit W t ≡ true → has_tree t ≡ true → is_drawable W t ≡ true → first_reason (draw_reasons W t) ≡ none
   nothing_refused e f g = rw (e, f, g)
 
-  pub drawn-whole : is_fit W t ≡ true → has_tree t ≡ true → is_drawable W t ≡ true → drawn_tree W t ≡ outcome_of (Done 0) (drawn_members t)
+  pub drawn-whole : is_fit W t ≡ true → has_tree t ≡ true → is_drawable W t ≡ true → drawn_tree W t ≡ outcome_of (Ok 0) (drawn_members t)
   drawn-whole e f g = drawn_by (nothing_refused e f g)
 
 -- ---- weights that are the same
@@ -96,7 +96,7 @@ module _ {W : Width} {t : Table} {c i : ℕ} (f : Found W t c i) where
   marks = (result_at t i).members
 
   abbrev refused : Outcome DrawnMembers
-  refused = outcome_of (Refused Unfit) no_members
+  refused = outcome_of (Err Unfit) no_members
 
   abbrev drawable_at : ℕ → ℕ → ℕ → Bool
   drawable_at k n C =
@@ -115,31 +115,30 @@ module _ {W : Width} {t : Table} {c i : ℕ} (f : Found W t c i) where
   undrawn : drawable_at i t.rows c ≡ false → refused ≡ drawn_tree W t
   undrawn h = sym (drawn-marks W t f.fit f.tree (drawable_at_lem ∙ h))
 
-  module _ {r : Members} (g : Gathered t.clusters t.weights t.states marks t.rows r) where
-    tests_are : drawable_at i t.rows c
-        ≡ (r.scored && is_same r.weight (result_at t i).best && is_tree W.taxa t.degree c (take r.size r.clusters))
+  pub found_unscored : scored_to t.states marks t.rows ≡ false → refused ≡ drawn_tree W t
+  found_unscored h = undrawn (rw h)
+
+  module _ {r : Members} (g : Gathered t marks t.rows r) where
+    tests_are : drawable_at i t.rows c ≡ (is_same r.weight (result_at t i).best && is_tree W.taxa t.degree c (take r.size r.clusters))
     tests_are = λ j.
-        sym g.scored j
+        g.scored j
         && is_same (sym g.weight j) (result_at t i).best
         && is_tree W.taxa t.degree c (sym (gathered-front g) j)
 
-    pub found_unscored : r.scored ≡ false → refused ≡ drawn_tree W t
-    found_unscored h = undrawn (tests_are ∙ rw h)
+    pub found_other : r.weight ≢ (result_at t i).best → refused ≡ drawn_tree W t
+    found_other h = undrawn (tests_are ∙ rw (T_false (is_same r.weight (result_at t i).best) (λ k. h (is_same→ _ _ k))))
 
-    pub found_other : r.scored ≡ true → r.weight ≢ (result_at t i).best → refused ≡ drawn_tree W t
-    found_other a h = undrawn (tests_are ∙ rw (a, T_false (is_same r.weight (result_at t i).best) (λ k. h (is_same→ _ _ k))))
-
-    module _ (a : r.scored ≡ true) (b : r.weight ≡ (result_at t i).best) where
+    module _ (b : r.weight ≡ (result_at t i).best) where
       tree_is : is_drawable W t ≡ is_tree W.taxa t.degree c (take r.size r.clusters)
       tree_is =
-          drawable_at_lem ∙ tests_are ∙ rw (a, b, T_true (is_same (result_at t i).best (result_at t i).best) (is_same_refl (result_at t i).best))
+          drawable_at_lem ∙ tests_are ∙ rw (b, T_true (is_same (result_at t i).best (result_at t i).best) (is_same_refl (result_at t i).best))
 
       pub found_no_tree : is_tree W.taxa t.degree c (take r.size r.clusters) ≡ false → refused ≡ drawn_tree W t
       found_no_tree h = sym (drawn-marks W t f.fit f.tree (tree_is ∙ h))
 
       pub found_tree : is_tree W.taxa t.degree c (take r.size r.clusters) ≡ true
-          → outcome_of (Done 0) (record { row = i; clusters = r.clusters; size = r.size }) ≡ drawn_tree W t
+          → outcome_of (Ok 0) (record { row = i; clusters = r.clusters; size = r.size }) ≡ drawn_tree W t
       found_tree h =
-          (λ j. outcome_of (Done 0) (record { row = i; clusters = g.clusters j; size = g.size j }))
-          ∙ (λ j. outcome_of (Done 0) (members_at (f.row j) (sym (min-eq_left f.capped) j)))
+          (λ j. outcome_of (Ok 0) (record { row = i; clusters = g.clusters j; size = g.size j }))
+          ∙ (λ j. outcome_of (Ok 0) (members_at (f.row j) (sym (min-eq_left f.capped) j)))
           ∙ sym (drawn-whole W t f.fit f.tree (tree_is ∙ h))

@@ -2,10 +2,11 @@
 --     marked_takes, marked_skips         one row more, marked or not
 --     mem-marked, falling_marked         which rows they are; the last stands first
 --     scored_skips, scored_takes         one row more: not marked; marked, and scored or not
+--     scored_stops                       one of them is marked and not scored
 --     mem-members                        each is the cluster of a marked row
 --     falling_members                    where the rows ascend, so do the members
 -- Assumes nothing.
-use mathlib.Core.Path.{◌≡◌, refl, sym, ap, ◌∙◌}
+use mathlib.Core.Path.{◌≡◌, refl, sym, ap, ◌∙◌, subst}
 use mathlib.Core.Bool.{Bool, true, false, ◌&&◌}
 use mathlib.Core.List.Memᴰ
 use mathlib.Core.List.{List, [], ◌∷◌, map}
@@ -20,9 +21,10 @@ use Rattle.laws.specs.Lists.{every}
 use Rattle.laws.specs.Orders.{Falling, places}
 use Rattle.laws.specs.State.{scored}
 use Rattle.laws.proofs.Appended.{mem_of_reverse}
-use Rattle.laws.proofs.Down.{mem_down, down_falling}
+use Rattle.laws.proofs.Down.{mem_down, down_mem, down_falling}
 use Rattle.laws.proofs.Falling.{in_turn_keep}
-use Rattle.laws.proofs.Keep.{mem_of_keep}
+use Rattle.laws.proofs.Keep.{mem-keep, mem_of_keep, every→}
+use Rattle.laws.proofs.Tests.{T_false, true_T}
 use Rattle.kept.specs.Marks.{has_mark}
 use Rattle.members.specs.Marked.{marked_to, members_to, scored_to}
 
@@ -54,6 +56,11 @@ module _ (ss : List ℕ) (m i : ℕ) where
 
   pub scored_takes : {b : Bool} → has_mark m i ≡ true → scored (get_or ss i 0) ≡ b → scored_to ss m (i + 1) ≡ (b && scored_to ss m i)
   scored_takes e k = ap are_scored (marked_takes m i e) ∙ ap (λ (b : Bool). b && scored_to ss m i) k
+
+  pub scored_stops : (n : ℕ) → i < n → has_mark m i ≡ true → scored (get_or ss i 0) ≡ false → scored_to ss m n ≡ false
+  scored_stops n h e k =
+      let marked : Mem i (marked_to m n) = mem-keep (has_mark m) (places n) (down_mem (λ (i : ℕ). i) n i h) (true_T e) in
+      T_false (scored_to ss m n) (λ all. subst T k (every→ (λ (i : ℕ). scored (get_or ss i 0)) (marked_to m n) all i marked))
 
 -- ---- the members
 -- images that fall where the numbers do

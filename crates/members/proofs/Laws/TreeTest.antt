@@ -1,25 +1,31 @@
--- The definition's test of a tree, as the row of tests that the code makes: it asks in one loop whether all are inside and nest.
+-- The definition's test of a tree, as the row of tests that the code makes: it asks in one chain whether all are inside and nest.
 --     are_nested, has_taxon, has_taxa, are_few     the tests by name
 --     is_tree-nested, is_tree-top, is_tree-taxa, is_tree-few     the tests in turn
+--     is_tree_by               all of them, with the look-up of the top cluster in the words of `contains`
 --     taxon_shift              taxon i as a shift makes it
 --     taxa-more, taxa_stop     the one-taxon clusters, upward: one that passes, and one that doesn't
+--     taxa_upward              all of them, upward
 -- Assumes nothing.
-use mathlib.Core.Path.{◌≡◌, refl, sym, ap, ◌∙◌}
-use mathlib.Core.Bool.{Bool, true, false, not, ◌&&◌, ◌||◌, and-false}
-use mathlib.Core.List.{List}
+use mathlib.Core.Path.{◌≡◌, refl, sym, ap, ap₂, ◌∙◌}
+use mathlib.Core.Bool.{Bool, true, false, not, ◌&&◌, ◌||◌, and-false, and-true, and_comm}
+use mathlib.Core.List.{List, [], ◌∷◌, map}
 use Prim.Native.Nat.{ℕ, zero, suc, ◌+◌, ◌-◌, ◌*◌, ◌%◌, ◌^◌, ◌<◌}
 use native.Mathlib.Decide.{ℕ_discrete}
-use native.Mathlib.Nat.{one-mul, mod-eq_of_lt}
+use native.Mathlib.Nat.{one-mul, mod-eq_of_lt, zero-add}
 use native.Mathlib.Numerals.{add-one}
 use native.Mathlib.Omega.{arith}
-use lib.Dec.{leb}
+use lib.Dec.{eqb, leb}
 use lib.ListN.{length}
 use lib.Pow.{pow-lt}
+use Rattle.std.specs.List.{list_all, list_any, range_with_len}
+use Rattle.std.proofs.lemmas.List.Folds.{list_all-append}
+use Rattle.std.proofs.lemmas.List.FromFn.{map-range_with_len_more}
 use Rattle.laws.specs.Cluster.{inside, nested, single, taxa}
 use Rattle.laws.specs.Limits.{narrow, word_values}
 use Rattle.laws.specs.Lists.{every, elem}
 use Rattle.laws.proofs.Keep.{every-and}
 use Rattle.trees.specs.Tree.{children, is_tree}
+use Rattle.members.proofs.Laws.Chains.{elem_is}
 
 -- ---- the tests in turn: where those before pass and one fails, the whole fails; where three pass, the last decides
 abbrev pub are_nested : ℕ → List ℕ → Bool
@@ -65,6 +71,9 @@ module _ (w d c : ℕ) (xs : List ℕ) where
   pub is_tree-few : are_nested c xs ≡ true → elem c xs ≡ true → has_taxa w c xs ≡ true → is_tree w d c xs ≡ are_few d xs
   is_tree-few e f g = is_tree_is ∙ rw (e, f, g) refl
 
+  pub is_tree_by : is_tree w d c xs ≡ (are_nested c xs && list_any (λ (x : ℕ). eqb x c) xs && has_taxa w c xs && are_few d xs)
+  is_tree_by = is_tree_is ∙ ap (λ (b : Bool). are_nested c xs && b && has_taxa w c xs && are_few d xs) (sym (elem_is c xs))
+
 -- ---- the one-taxon clusters, upward
 -- taxon i as a shift makes it
 pub taxon_shift : (i : ℕ) → i < narrow.taxa → 1 * 2 ^ i % word_values ≡ 2 ^ i
@@ -81,3 +90,13 @@ module _ (p : ℕ → Bool) where
       go : Dec (i ≡ w) → (i < w → every p (taxa w) ≡ false) → every p (taxa (suc w)) ≡ false
       go (yes q) f = ap (λ (b : Bool). b && every p (taxa w)) (ap p (ap (λ (k : ℕ). 2 ^ k) (sym q) ∙ sym e) ∙ h)
       go (no d) f = ap (λ (b : Bool). p (2 ^ w) && b) (f (omega arith)) ∙ and-false (p (2 ^ w))
+
+  pub taxa_upward : (w : ℕ) → every p (taxa w) ≡ list_all p (map (λ (i : ℕ). 2 ^ i) (range_with_len 0 w))
+  taxa_upward zero = refl
+  taxa_upward (suc w) =
+      let upward : List ℕ = map (λ (i : ℕ). 2 ^ i) (range_with_len 0 w) in
+      and_comm (p (2 ^ w)) (every p (taxa w))
+      ∙ ap₂ (λ (a b : Bool). a && b) (taxa_upward w) (sym (and-true (p (2 ^ w))))
+      ∙ sym (list_all-append p upward (2 ^ w ∷ []))
+      ∙ ap (list_all p) (sym (map-range_with_len_more (λ (i : ℕ). 2 ^ i) 0 w w (zero-add w)))
+      ∙ ap (λ (n : ℕ). list_all p (map (λ (i : ℕ). 2 ^ i) (range_with_len 0 n))) (add-one w)

@@ -22,8 +22,8 @@ use Rattle.laws.specs.Limits.{narrow, degree_high, is_degree}
 use Rattle.laws.proofs.Integers.{mag_le_abs}
 use Rattle.laws.proofs.Tests.{T-of-not}
 use Rattle.laws.proofs.Width.{narrow_facts, degree_range}
-use Rattle.answers.specs.declared.refusal.Answer.{Answer}
-use Rattle.answers.specs.declared.refusal.Answer.TheVariants.{Done, Refused}
+use Rattle.answers.specs.Refusal.{Answer}
+use Rattle.std.specs.Prelude.{Ok, Err}
 use Rattle.answers.specs.declared.refusal.Refusal.{Refusal}
 use Rattle.answers.specs.Refusal.{position_of, sent_of}
 use Rattle.answers.specs.Reasons.{first_reason}
@@ -88,7 +88,7 @@ module _ (d : ℕ) (t : Table) where
   abbrev drawn_line : List ℕ
   drawn_line = let v = result_at t (leaf_row t) in tree_line d v.count v.mark v.best (leaf_text t)
 
-  pub table-refused : {f : Refusal} → first_reason (draw_reasons narrow t) ≡ some f → refused_line d (sent_of (Refused f)) ≡ table_line d t
+  pub table-refused : {f : Refusal} → first_reason (draw_reasons narrow t) ≡ some f → refused_line d (sent_of (Err f)) ≡ table_line d t
   table-refused e = ap (λ (o : Option Refusal). line_for d o drawn_line) (sym e)
 
   -- as the code reads the row
@@ -126,10 +126,10 @@ module _ (l : List ℕ) (d : ℕ) where
     ends : {b : Answer} → a ≡ b → ended (first_reason (build_reasons narrow l d)) zero_table 0 table ≡ outcome_of b t
     ends e = sym (build_of narrow l d refl) ∙ sym p ∙ ap (λ (b : Answer). outcome_of b t) e
 
-    pub built-refused : {f : Refusal} → a ≡ Refused f → refused_line d (sent_of (Refused f)) ≡ line_of l d
+    pub built-refused : {f : Refusal} → a ≡ Err f → refused_line d (sent_of (Err f)) ≡ line_of l d
     built-refused {f} e = line_by (ended-refused (first_reason (build_reasons narrow l d)) zero_table 0 table f t (ends e)).0
 
-    pub built_done : {n : ℕ} → a ≡ Done n → table_line d t ≡ line_of l d
+    pub built_done : {n : ℕ} → a ≡ Ok n → table_line d t ≡ line_of l d
     built_done {n} e =
         ap (table_line d) (ap (λ (o : Outcome Table). o.given) p)
         ∙ line_by (ended_done (first_reason (build_reasons narrow l d)) zero_table 0 table n t (ends e)).0
@@ -181,7 +181,7 @@ module _ (l : List ℕ) (d : ℕ) (room : List ℕ) where
   unfolding line_into
   line-put = refl
 
-  pub line-told : {a : Answer} {n : ℕ} {m : List ℕ} → outcome_of a m ≡ line_into l d room → a ≡ Done n → n ≤ length room
+  pub line-told : {a : Answer} {n : ℕ} {m : List ℕ} → outcome_of a m ≡ line_into l d room → a ≡ Ok n → n ≤ length room
   line-told {a} {n} {m} e r =
       let q = written-told [] (line_of l d) room n m (ap (λ (b : Answer). outcome_of b m) (sym r) ∙ e ∙ sym line-put) in
       omega (arith, q.0, q.1)

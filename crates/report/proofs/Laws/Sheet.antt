@@ -10,8 +10,8 @@ use Prim.Native.Nat.{ℕ, ◌^◌, ◌≤◌, ◌<◌}
 use native.Mathlib.Omega.{arith}
 use borrow.Author.Tests.{ne_eqb}
 use lib.ListN.{length, length-append}
-use Rattle.answers.specs.declared.refusal.Answer.{Answer}
-use Rattle.answers.specs.declared.refusal.Answer.TheVariants.{Done, Refused}
+use Rattle.answers.specs.Refusal.{Answer}
+use Rattle.std.specs.Prelude.{Ok, Err}
 use Rattle.answers.specs.declared.refusal.Refusal.{Refusal}
 use Rattle.answers.specs.Refusal.{number_of, sent_of}
 use Rattle.answers.proofs.Laws.Refusal.{number_pos}
@@ -25,15 +25,15 @@ use Rattle.report.proofs.Laws.Words.{refused_words-length-le}
 
 -- ---- by the answer
 
-refused_line_lem : (f : Refusal) (m : ℕ) → refused_words (sent_of (Refused f)) ≡ sheet_line (sent_of (Refused f)) m
+refused_line_lem : (f : Refusal) (m : ℕ) → refused_words (sent_of (Err f)) ≡ sheet_line (sent_of (Err f)) m
 refused_line_lem f m =
-    sym (ap (λ (b : Bool). cond b (taken_line 0 m) (refused_words (sent_of (Refused f)))) (ne_eqb (number_of f) 0 (number_pos f)))
+    sym (ap (λ (b : Bool). cond b (taken_line 0 m) (refused_words (sent_of (Err f)))) (ne_eqb (number_of f) 0 (number_pos f)))
 
 module _ {a : Answer} (m : ℕ) where
-  pub sheet_refused : {f : Refusal} → a ≡ Refused f → refused_words (sent_of (Refused f)) ≡ sheet_line (sent_of a) m
+  pub sheet_refused : {f : Refusal} → a ≡ Err f → refused_words (sent_of (Err f)) ≡ sheet_line (sent_of a) m
   sheet_refused {f} e = refused_line_lem f m ∙ ap (λ (b : Answer). sheet_line (sent_of b) m) (sym e)
 
-  pub sheet_taken : {n : ℕ} → a ≡ Done n → taken_line n m ≡ sheet_line (sent_of a) m
+  pub sheet_taken : {n : ℕ} → a ≡ Ok n → taken_line n m ≡ sheet_line (sent_of a) m
   sheet_taken e = ap (λ (b : Answer). sheet_line (sent_of b) m) (sym e)
 
 -- ---- how long it can be
@@ -46,8 +46,8 @@ taken_line-length-le n m h k =
 
 pub sheet_line-length-le : (a : Answer) (m : ℕ) → (sent_of a).told < 2 ^ 64 → (sent_of a).position < 2 ^ 64 → m < 2 ^ 64
     → length (sheet_line (sent_of a) m) ≤ 66
-sheet_line-length-le (Done n) m h p k = taken_line-length-le n m h k
-sheet_line-length-le (Refused f) m h p k = omega (arith, ap length (refused_line_lem f m), refused_words-length-le f p)
+sheet_line-length-le (Ok n) m h p k = taken_line-length-le n m h k
+sheet_line-length-le (Err f) m h p k = omega (arith, ap length (refused_line_lem f m), refused_words-length-le f p)
 
 pub sheet_held : (a : Answer) (m : ℕ) → (sent_of a).told < 2 ^ 64 → (sent_of a).position < 2 ^ 64 → m < 2 ^ 64
     → {t : Text} → t ≡ with_bytes (holding []) (sheet_line (sent_of a) m) → t ≡ holding (sheet_line (sent_of a) m)

@@ -19,7 +19,7 @@ use lib.IntN.{ℤ, pos, nat_abs}
 use lib.ListN.{length, length-append}
 use lib.Signed.{lt_z}
 use Rattle.laws.specs.Limits.{narrow, weight_max}
-use Rattle.answers.specs.declared.refusal.Answer.TheVariants.{Refused}
+use Rattle.std.specs.Prelude.{Err}
 use Rattle.answers.specs.declared.refusal.Refusal.{Refusal}
 use Rattle.answers.specs.Refusal.{number_of, position_of, sent_of}
 use Rattle.answers.proofs.Laws.Refusal.{number-le}
@@ -96,16 +96,16 @@ place_word-length-le n p h = go (has_position n)
     go true = omega (arith, decimal-length-le 19 p (omega arith))
     go false = omega arith
 
-pub refused_words-length-le : (f : Refusal) → position_of f < 2 ^ 64 → length (refused_words (sent_of (Refused f))) ≤ 43
+pub refused_words-length-le : (f : Refusal) → position_of f < 2 ^ 64 → length (refused_words (sent_of (Err f))) ≤ 43
 refused_words-length-le f k =
     let number = number-le f in
     let first = decimal-length-le 9 (number_of f) (omega arith) in
     let second = place_word-length-le (number_of f) (position_of f) k in
     simp length-append (omega arith)
 
-pub refused_line-length-le : (d : ℕ) (f : Refusal) → d < 2 ^ 32 → position_of f < 2 ^ 64 → length (refused_line d (sent_of (Refused f))) ≤ 54
+pub refused_line-length-le : (d : ℕ) (f : Refusal) → d < 2 ^ 32 → position_of f < 2 ^ 64 → length (refused_line d (sent_of (Err f))) ≤ 54
 refused_line-length-le d f h k =
     let first = decimal-length-le 9 d (omega arith) in
     let rest = refused_words-length-le f k in
-    let split = length-append (decimal d ++ characters " ") (refused_words (sent_of (Refused f))) in
+    let split = length-append (decimal d ++ characters " ") (refused_words (sent_of (Err f))) in
     omega (arith, split, length-append (decimal d) (characters " "))

@@ -23,6 +23,7 @@ use Rattle.laws.specs.Row.{Row}
 use Rattle.laws.specs.Widths.{WidthFacts}
 use Rattle.laws.proofs.State.{state-le}
 use Rattle.laws.proofs.Tests.{T_true}
+use Rattle.std.specs.Prelude.{Option}
 use Rattle.cluster.specs.declared.rule.Rule.{Rule}
 use Rattle.cluster.specs.Reading.{rule_of}
 use Rattle.cluster.specs.Record.{row_of, has_spare, bytes_of}
@@ -109,7 +110,7 @@ module _ {W : Width} (facts : WidthFacts W) (l : List ℕ) (byte : Bytes l) (i :
     keeps_same : KeepsAt W changed i
     keeps_same = (keeps_iff W changed i).0
         (ap (λ (b : List ℕ). not (is_kept (rule_of W b))) bytes_same
-        ∙ ap (λ (u : Rule). not (is_kept u)) (bytes_of_rule W new facts new_rules)
+        ∙ ap (λ (u : Option Rule). not (is_kept u)) (bytes_of_rule W new facts new_rules)
         ∙ ap not (T_true (is_kept (broken_rule new.cluster z s false)) (keeps→kept new.cluster z s false new_keeps)))
 
     keeps_changed : (j : ℕ) → KeepsAt W l j → KeepsAt W changed j

@@ -23,8 +23,8 @@ use Rattle.laws.specs.Limits.{Width}
 use Rattle.laws.specs.Row.{Row}
 use Rattle.laws.proofs.Down.{down_length}
 use Rattle.laws.proofs.Tests.{T-of-not}
-use Rattle.answers.specs.declared.refusal.Answer.{Answer}
-use Rattle.answers.specs.declared.refusal.Answer.TheVariants.{Refused}
+use Rattle.answers.specs.Refusal.{Answer}
+use Rattle.std.specs.Prelude.{Err}
 use Rattle.answers.specs.declared.refusal.Refusal.{Refusal}
 use Rattle.answers.specs.Outcome.{Outcome, outcome_of}
 use Rattle.answers.specs.Reasons.{first_reason, First}
@@ -60,7 +60,7 @@ module _ (W : Width) (t : Table) (c : ℕ) (z : ℤ) (s : ℕ) where
             ∙ by.1 (λ n. T_not (is_fit W t) n k.0, (λ n. T_not (has_row t c) n k.1, (λ n. T_not (is_score z s) n k.2, tt))),
       )
 
-  pub rescore_refuses_iff : (f : Refusal) → ((rescore_table W t c z s).sent ≡ sent_of (Refused f)) ↔ First (rescore_reasons W t c z s) f
+  pub rescore_refuses_iff : (f : Refusal) → ((rescore_table W t c z s).sent ≡ sent_of (Err f)) ↔ First (rescore_reasons W t c z s) f
   rescore_refuses_iff f =
       let by = refuses_iff (rescore_reasons W t c z s) t 0 (new_table W t c z s) f in
       let sent = ap (λ (o : Outcome Table). o.sent) (rescore_of W t c z s refl) in

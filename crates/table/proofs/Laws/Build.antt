@@ -29,8 +29,8 @@ use Rattle.laws.proofs.Cluster.{zero-inside}
 use Rattle.laws.proofs.Column.{column-keep}
 use Rattle.laws.proofs.Down.{down_mem}
 use Rattle.laws.proofs.Tests.{T_true}
-use Rattle.answers.specs.declared.refusal.Answer.{Answer}
-use Rattle.answers.specs.declared.refusal.Answer.TheVariants.{Done, Refused}
+use Rattle.answers.specs.Refusal.{Answer}
+use Rattle.std.specs.Prelude.{Ok, Err}
 use Rattle.answers.specs.declared.refusal.Refusal.{Refusal}
 use Rattle.answers.specs.declared.refusal.Refusal.TheVariants.{DegreeOut}
 use Rattle.answers.specs.Outcome.{outcome_of, ended}
@@ -190,7 +190,7 @@ module _ {W : Width} (facts : WidthFacts W) {d : ℕ} {rs : List Row} (k : Build
 -- ---- how the code ends
 
 module _ (W : Width) (l : List ℕ) (d : ℕ) where
-  pub build_out : is_degree d ≡ false → outcome_of (Refused DegreeOut) zero_table ≡ build_table W l d
+  pub build_out : is_degree d ≡ false → outcome_of (Err DegreeOut) zero_table ≡ build_table W l d
   build_out e = sym (build_of W l d (reason_told (not (is_degree d)) DegreeOut (list_reasons W l) (ap not e)))
 
   module _ (degree : T (is_degree d)) where
@@ -203,12 +203,12 @@ module _ (W : Width) (l : List ℕ) (d : ℕ) where
       ends : {b : Answer} → a ≡ b → ended (first_reason (list_reasons W l)) (listed []) 0 (listed (rows_of W l)) ≡ outcome_of b s
       ends e = sym (read_list_is W l) ∙ sym read ∙ ap (λ (x : Answer). outcome_of x s) e
 
-      pub build-refused : {f : Refusal} → a ≡ Refused f → outcome_of (Refused f) zero_table ≡ build_table W l d
+      pub build-refused : {f : Refusal} → a ≡ Err f → outcome_of (Err f) zero_table ≡ build_table W l d
       build-refused {f} e =
           let first = (ended-refused (first_reason (list_reasons W l)) (listed []) 0 (listed (rows_of W l)) f s (ends e)).0 in
           sym (build_of W l d (reasons_of first))
 
-      module _ (facts : WidthFacts W) (byte : Bytes l) {m : ℕ} (e : a ≡ Done m) where
+      module _ (facts : WidthFacts W) (byte : Bytes l) {m : ℕ} (e : a ≡ Ok m) where
         told : (first_reason (list_reasons W l) ≡ none) × (s ≡ listed (rows_of W l))
         told = ended_done (first_reason (list_reasons W l)) (listed []) 0 (listed (rows_of W l)) m s (ends e)
 
@@ -221,7 +221,7 @@ module _ (W : Width) (l : List ℕ) (d : ℕ) where
         pub build_workable : Workable W (unworked_of s d) 0
         build_workable = subst (λ (t : Table). Workable W t 0) (sym table_is) (workable facts rows)
 
-        pub build_done : outcome_of (Done 0) (again_table W (unworked_of s d) 0) ≡ build_table W l d
+        pub build_done : outcome_of (Ok 0) (again_table W (unworked_of s d) 0) ≡ build_table W l d
         build_done =
-            ap (outcome_of (Done 0)) (ap (λ (t : Table). again_table W t 0) table_is ∙ again_is facts rows)
+            ap (outcome_of (Ok 0)) (ap (λ (t : Table). again_table W t 0) table_is ∙ again_is facts rows)
             ∙ sym (build_of W l d (reasons_of told.0))

@@ -1,7 +1,7 @@
 -- The row loop of `again` (`src/working.rt`): how it begins, goes on and ends, with every row worked out again. What holds after each
 -- row is `Partly` of `AgainRow.antt`.
---     stored_with t i r m z    the results r in row i, with the mark m and the best weight z
 --     partly_start, partly_skip, partly_store, partly_end
+--     mark-fits                the mark that is stored is a byte
 -- Assumes nothing.
 use mathlib.Core.Path.{◌≡◌, refl, sym, ap, ap₂, ◌∙◌, subst}
 use mathlib.Core.Bool.{Bool, true, false}
@@ -13,14 +13,15 @@ use native.Mathlib.Decide.{ℕ_discrete}
 use native.Mathlib.Numerals.{add-one}
 use native.Mathlib.Omega.{arith}
 use lib.Dec.{T}
-use lib.IntN.{ℤ, pos}
+use lib.IntN.{pos}
 use lib.ListN.{get_or}
+use mir.Syntax.{w8}
+use mir.Val.{Fits}
 use lib.Seq.{get_or-set_same, get_or-set_other}
 use Rattle.laws.specs.Cluster.{inside}
 use Rattle.laws.specs.Limits.{Width, row_cap, word_values}
 use Rattle.laws.specs.Row.{Row}
 use Rattle.laws.specs.Widths.{WidthFacts}
-use Rattle.cluster.specs.Bytes.{byte_values}
 use Rattle.trees.specs.Rows.{Entry}
 use Rattle.trees.specs.Result.{Result}
 use Rattle.trees.specs.Rescored.{worked_out, again_if, again}
@@ -51,11 +52,6 @@ result_back v = λ i. record {
 
 low-lt : (m : ℕ) → m % word_values < word_values
 low-lt m = omega arith
-
--- the results r in row i, with the mark m and the best weight z
-abbrev pub stored_with : Table → ℕ → Tally → ℕ → ℤ → Table
-stored_with t i r m z =
-    stored t i (record { tuples = r.tuples; count = r.count; mark = m; best = z; low = r.low; high = r.high })
 
 -- ---- how the loop begins, and a row that stays
 
@@ -112,7 +108,7 @@ module _ {W : Width} (facts : WidthFacts W) {given : Table} {c : ℕ} (w : Worka
 
     module _ {r : Tally} {starts : List ℕ} (begins : Starts given.clusters given.rows starts) (h : i < given.rows)
         (b : inside c (get_or t.clusters i 0) ≡ true)
-        (e : r ≡ worked_tally W (columns_of t) (get_or t.weights i (pos 0)) i given.degree) where
+        (e : r ≡ worked_tally W (columns_of t) (get_or t.weights i (pos 0)) i t.degree) where
       row_is : r ≡ fields_tally (F (row_at given i) (again F c (entries_of given i)))
       row_is = e ∙ row-again facts w p starts h begins
 
@@ -132,8 +128,8 @@ module _ {W : Width} (facts : WidthFacts W) {given : Table} {c : ℕ} (w : Worka
           rw (q, get_or-set_same t.members_low i r.low 0 (omega (arith, p.sized.lows, room))) (rw row_is (low-lt _))
       stored_words j l (no n) = rw (get_or-set_other t.members_low i j r.low 0 n) (p.words j l)
 
-      stored_partly : Partly W given c (stored t i r) (i + 1)
-      stored_partly = record {
+      pub partly_store : Partly W given c (stored t i r) (i + 1)
+      partly_store = record {
         within = omega arith;
         degree = p.degree;
         rows = p.rows;
@@ -147,19 +143,12 @@ module _ {W : Width} (facts : WidthFacts W) {given : Table} {c : ℕ} (w : Worka
       }
 
       -- the row is fit, so its mark is 0 or 1
-      mark-small : r.mark < byte_values
-      mark-small =
+      pub mark-fits : Fits w8 r.mark
+      mark-fits =
           let e : Entry Result = record { row = row_at given i; val = F (row_at given i) (again F c (entries_of given i)) } in
           let fit = again-fit-below facts w (suc i) (omega arith) e (subst (Mem e) stored_done (here (sym stored_row))) in
-          ⊎_elim (λ q. omega (arith, ap (λ (x : Tally). x.mark) row_is, q)) (λ q. omega (arith, ap (λ (x : Tally). x.mark) row_is, q.0))
-          (good_of_fit W cs e fit).marked
-
-      -- the code stores the mark as a byte, and the best weight by its bits
-      pub partly_store : {z : ℤ} → z ≡ r.best → Partly W given c (stored_with t i r (r.mark % byte_values) z) (i + 1)
-      partly_store q =
-          let m : r.mark ≡ r.mark % byte_values = omega (arith, mark-small) in
-          subst (λ (z : ℤ). Partly W given c (stored_with t i r (r.mark % byte_values) z) (i + 1)) (sym q)
-          (subst (λ (m : ℕ). Partly W given c (stored_with t i r m r.best) (i + 1)) m stored_partly)
+          let mark = ap (λ (x : Tally). x.mark) row_is in
+          record { fits = ⊎_elim (λ q. omega (arith, mark, q)) (λ q. omega (arith, mark, q.0)) (good_of_fit W cs e fit).marked }
 
     -- ---- all rows passed
 

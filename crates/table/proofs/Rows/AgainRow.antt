@@ -1,7 +1,6 @@
 -- One turn of the row loop of `again` (`src/working.rt`): the rows so far worked out, and the row that the code works out next.
 --     Partly W given c t i    the first i rows of t are the given ones, worked out again; the others are as given
 --     ready_row               what working out row i may count on
---     weight_at_lem               the weight of row i is a number of 32 bits
 --     same_row, row-again     the row is the given one, and the code's result for it is that of the rules, over the rows as they stand
 -- Assumes nothing.
 use mathlib.Core.Path.{◌≡◌, sym, ap, ap₂, ◌∙◌, subst}
@@ -10,11 +9,10 @@ use mathlib.Core.List.{List}
 use mathlib.Core.List.{Memᴰ as Mem}
 use Prim.Native.Nat.{ℕ, ◌≤◌, ◌<◌}
 use native.Mathlib.Omega.{arith}
+use lib.Dec.{T}
 use lib.IntN.{ℤ, pos, nat_abs}
 use lib.ListN.{get_or}
-use mir.Syntax.{w32}
-use mir.Val.{SFits}
-use Rattle.laws.specs.Limits.{Width, weight_max, word_values, row_cap}
+use Rattle.laws.specs.Limits.{Width, is_degree, weight_max, word_values, row_cap}
 use Rattle.laws.specs.Orders.{Falling}
 use Rattle.laws.specs.Row.{Row}
 use Rattle.laws.specs.Widths.{WidthFacts}
@@ -32,7 +30,7 @@ use Rattle.table.specs.Tally.{fields_tally}
 use Rattle.table.specs.Working.{worked_tally, Ready, Workable}
 use Rattle.table.specs.Columns.{columns_of, column_row, fields_of}
 use Rattle.table.proofs.Fitting.KeepsFit.{Over}
-use Rattle.table.proofs.Rows.Workable.{given-rules, cluster-word, weight-fits, given-full, given-falls}
+use Rattle.table.proofs.Rows.Workable.{given-rules, cluster-word, given-full, given-falls}
 use Rattle.table.proofs.Rows.Workable.{again-fit-below, again_over_below}
 use Rattle.table.proofs.Rows.WorkedRow.{worked-row}
 use Rattle.table.proofs.Tallies.Decoded.{good_of_fit}
@@ -101,7 +99,7 @@ module _ {W : Width} (facts : WidthFacts W) {given : Table} {c : ℕ} (w : Worka
             record { counted = g.counted; marked = g.marked; matched = g.matched }
 
     pub ready_row : (starts : List ℕ) → i < given.rows → Starts given.clusters given.rows starts
-        → Ready W (columns_of t) starts (get_or t.weights i (pos 0)) i given.degree
+        → Ready W (columns_of t) starts (get_or t.weights i (pos 0)) i t.degree
     ready_row starts h s = record {
       rows = given.rows;
       place = h;
@@ -112,13 +110,10 @@ module _ {W : Width} (facts : WidthFacts W) {given : Table} {c : ℕ} (w : Worka
       begins = clusters-same (λ (l : List ℕ). Starts l given.rows starts) s;
       nonzero = clusters-same (λ (l : List ℕ). 0 < get_or l i 0) (cluster_pos W (row_at given i) (w.rules i h));
       small = clusters-same (λ (l : List ℕ). get_or l i 0 < word_values) (cluster-word facts w i h);
-      degree = w.bounds.degree;
+      degree = subst (λ (n : ℕ). T (is_degree n)) (sym p.degree) w.bounds.degree;
       light = subst (λ (l : List ℤ). nat_abs (get_or l i (pos 0)) ≤ weight_max) (sym p.weights)
           (given-rules facts w i h).1.score.in_range_lem;
     }
-
-    pub weight_at_lem : i < given.rows → SFits w32 (get_or t.weights i (pos 0))
-    weight_at_lem h = subst (λ (l : List ℤ). SFits w32 (get_or l i (pos 0))) (sym p.weights) (weight-fits facts w i h)
 
     -- ---- row i worked out and stored
 
@@ -127,12 +122,12 @@ module _ {W : Width} (facts : WidthFacts W) {given : Table} {c : ℕ} (w : Worka
 
     -- the code's row is that of the rules, over the rows as they stand
     pub row-again : (starts : List ℕ) → i < given.rows → Starts given.clusters given.rows starts
-        → worked_tally W (columns_of t) (get_or t.weights i (pos 0)) i given.degree
+        → worked_tally W (columns_of t) (get_or t.weights i (pos 0)) i t.degree
         ≡ fields_tally (F (row_at given i) (again F c (entries_of given i)))
     unfolding ready_row
     row-again starts h s =
-        worked-row W t starts i d (ready_row starts h s) over
-        ∙ ap (λ (l : List ℕ). fields_tally (worked_out W d l (row_at t i) (entries_of t i))) same-clusters
+        worked-row W t starts i t.degree (ready_row starts h s) over
+        ∙ ap₂ (λ (n : ℕ) (l : List ℕ). fields_tally (worked_out W n l (row_at t i) (entries_of t i))) p.degree same-clusters
         ∙ ap fields_tally (ap₂ F same_row p.done)
       where
         over : Over W.count_max (clusters_down t.clusters given.rows) (row_at t i) (entries_of t i)

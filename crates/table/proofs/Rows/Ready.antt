@@ -3,10 +3,8 @@
 --     own_encoded           the row by itself: one tree, its weight and its mark
 --     found_res, under_is    what the search finds, and the tally of the row over it
 --     under_fits            the sums of that fit their words
---     worked-unscored, worked-single, worked_searched     the three ways in which the code ends
 -- Assumes nothing.
-use mathlib.Core.Path.{◌≡◌, sym, ap, ap₂, ◌∙◌, subst₂}
-use mathlib.Core.Bool.{Bool, true, false, cond}
+use mathlib.Core.Path.{◌≡◌, sym, ap, ◌∙◌, subst₂}
 use mathlib.Core.Option.{Option, none, some}
 use mathlib.Core.List.{List}
 use Prim.Native.Nat.{ℕ, suc, ◌+◌, ◌-◌, ◌*◌, ◌/◌, ◌%◌, ◌^◌, ◌≤◌, ◌<◌}
@@ -17,9 +15,8 @@ use lib.IntN.{ℤ, nat_abs, ◌+ℤ◌}
 use lib.ListN.{get_or}
 use mir.Syntax.{w64}
 use mir.Val.{SFits}
-use Rattle.laws.specs.Cluster.{size, single, highest}
+use Rattle.laws.specs.Cluster.{size, highest}
 use Rattle.laws.specs.Limits.{Width, weight_max, word_values}
-use Rattle.laws.specs.State.{scored}
 use Rattle.laws.proofs.Taxa.{size_pos, highest-le, highest_gt}
 use Rattle.trees.specs.Solution.{Sol, times_sol, Res}
 use Rattle.trees.proofs.Counting.Capped.{count_small}
@@ -31,9 +28,9 @@ use Rattle.kept.proofs.Laws.Marks.{highest-lt}
 use Rattle.table.specs.declared.tally.Tally.{Tally}
 use Rattle.table.specs.Searched.{Searchable}
 use Rattle.table.specs.Tally.{tally_with, tally_of, own_tally}
-use Rattle.table.specs.Working.{found_tally, worked_tally, Ready}
+use Rattle.table.specs.Working.{found_tally, Ready}
 use Rattle.table.specs.Columns.{Columns, sum_covers, parts_of}
-use Rattle.table.specs.Sums.{no_tally, under_tally}
+use Rattle.table.specs.Sums.{under_tally}
 use Rattle.table.proofs.Fitting.Rooted.{mine, own_disj}
 use Rattle.table.proofs.Rows.Working.{low_mark_is, high_mark_is}
 use Rattle.table.proofs.Tallies.CoverSums.{sum_covers_keeps}
@@ -144,20 +141,3 @@ module _ {W : Width} {k : Columns} {starts : List ℕ} {z : ℤ} {i d : ℕ} (R 
   under_fits p q =
       let safe = subst₂ Safe (sym (p ∙ own_encoded 1)) (sym q) own_safe in
       (safe.best, (safe.low, safe.high))
-
--- ---- how the code ends
-
-module _ (W : Width) (k : Columns) (z : ℤ) (i d : ℕ) where
-  abbrev by : Bool → Bool → Tally
-  by s b = cond s (cond b (own_tally 0 z i) (under_tally W.count_max (own_tally 1 z i) (found_tally W k i d))) no_tally
-
-  pub worked-unscored : scored (get_or k.states i 0) ≡ false → no_tally ≡ worked_tally W k z i d
-  worked-unscored e = ap (λ (s : Bool). by s (single (get_or k.clusters i 0))) (sym e)
-
-  module _ (e : scored (get_or k.states i 0) ≡ true) where
-    pub worked-single : single (get_or k.clusters i 0) ≡ true → own_tally 0 z i ≡ worked_tally W k z i d
-    worked-single f = ap₂ by (sym e) (sym f)
-
-    pub worked_searched : single (get_or k.clusters i 0) ≡ false → {o f : Tally} → o ≡ own_tally 1 z i → f ≡ found_tally W k i d
-        → under_tally W.count_max o f ≡ worked_tally W k z i d
-    worked_searched b p q = ap₂ (under_tally W.count_max) p q ∙ ap₂ by (sym e) (sym b)

@@ -1,7 +1,7 @@
 -- A table that may be worked out (`Workable` of `specs/Working.antt`): its rows, and the rows so far worked out again.
 --     given-full, given-falls     its clusters are not empty, and fall
 --     given-rules                 what was listed of a row keeps the record rules
---     cluster-word, weight-fits   a cluster is a word, and a weight a number of 32 bits
+--     cluster-word                a cluster is a word
 --     again-fit-below, again_over_below     the first rows, worked out again, are fit, and the next row may be worked out over them
 -- Assumes nothing.
 use mathlib.Core.Path.{sym, ◌∙◌, subst}
@@ -14,11 +14,8 @@ use Prim.Native.Nat.{ℕ, suc, ◌-◌, ◌^◌, ◌≤◌, ◌<◌}
 use native.Mathlib.Nat.{lt_of_lt_of_le}
 use native.Mathlib.Omega.{arith}
 use lib.Dec.{T}
-use lib.IntN.{pos}
 use lib.ListN.{get_or}
 use lib.Pow.{pow_mono}
-use mir.Syntax.{w32}
-use mir.Val.{SFits}
 use Rattle.laws.specs.Cluster.{inside}
 use Rattle.laws.specs.Limits.{Width, word_values}
 use Rattle.laws.specs.Orders.{Falling}
@@ -26,7 +23,6 @@ use Rattle.laws.specs.Row.{Row}
 use Rattle.laws.specs.Widths.{WidthFacts, few}
 use Rattle.laws.proofs.Width.{degree_range}
 use Rattle.laws.proofs.Down.{down_length, mem_down, down_mem, down_falling}
-use Rattle.laws.proofs.Integers.{mag_le_abs}
 use Rattle.cluster.specs.Rule.{Keeps, keeps_rules}
 use Rattle.cluster.proofs.Laws.Rule.{rules→}
 use Rattle.trees.specs.Rows.{Entry, cl}
@@ -58,9 +54,6 @@ module _ {W : Width} (facts : WidthFacts W) {given : Table} {c : ℕ} (w : Worka
 
   pub cluster-word : (i : ℕ) → i < given.rows → get_or given.clusters i 0 < word_values
   cluster-word i h = lt_of_lt_of_le (given-rules i h).0 (let most : 2 ^ W.taxa ≤ 2 ^ 64 = pow_mono facts.taxa in most)
-
-  pub weight-fits : (i : ℕ) → i < given.rows → SFits w32 (get_or given.weights i (pos 0))
-  weight-fits i h = record { sfits = omega (arith, (given-rules i h).1.score.in_range_lem, mag_le_abs (get_or given.weights i (pos 0))) }
 
   pub given-full : (x : ℕ) → Mem x (clusters_in given) → x ≢ 0
   given-full x m e =

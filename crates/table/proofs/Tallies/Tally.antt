@@ -82,19 +82,6 @@ module _ (a b : Tally) where
   pub is_larger-low : a.high ≢ b.high → is_larger a b ≡ ltb b.high a.high
   is_larger-low h = simp (ne_eqb _ _ h)
 
-  pub is_before_heavier : lt_z b.best a.best ≡ true → is_before a b ≡ true
-  unfolding is_before
-  is_before_heavier h = simp h
-
-  module _ (f : lt_z b.best a.best ≡ false) where
-    pub is_before_lighter : lt_z a.best b.best ≡ true → is_before a b ≡ false
-    unfolding is_before
-    is_before_lighter h = simp (f, h)
-
-    pub is_before_level : lt_z a.best b.best ≡ false → is_before a b ≡ is_larger a b
-    unfolding is_before
-    is_before_level h = simp (f, h)
-
   pub is_before_by : is_before a b ≡ cond (lt_z b.best a.best) true (cond (lt_z a.best b.best) false (is_larger a b))
   unfolding is_before
   is_before_by = refl

@@ -3,16 +3,13 @@
 --     parts_fall               the parts fall
 --     part_keeps, parts_keep   the scored ones keep what sums keep; b is above all of them
 --     part_is                  the code's form of a scored row is the tally of one tuple
---     missing_is, other_is, unscored_is, found_is     the one cover by one row: no row is as large, another one stands there, it is
---                              unscored, or it is the cover
+--     missing_is, unscored_is, found_is     the one cover by one row: there is no such row, it is unscored, or it is the cover
 -- Assumes nothing.
 use mathlib.Core.Path.{◌≡◌, refl, sym, ap, ◌∙◌, subst}
 use mathlib.Core.Logic.{◌≢◌}
 use mathlib.Core.Bool.{Bool, true, false, cond}
 use mathlib.Core.List.{List, map, Memᴰ as Mem}
 use Prim.Native.Nat.{ℕ, ◌≤◌, ◌<◌}
-use native.Mathlib.Decide.{dec_lt}
-use native.Mathlib.Nat.{le_refl}
 use native.Mathlib.Omega.{arith}
 use lib.Dec.{T}
 use lib.ListN.{get_or}
@@ -26,7 +23,7 @@ use Rattle.trees.specs.Solution.{Res}
 use Rattle.trees.proofs.Searching.Search.{lookup, lookup_row, lookup_missing, search_one}
 use Rattle.kept.proofs.Laws.Clusters.{rising_part}
 use Rattle.table.specs.Tally.{tally_of, decoded}
-use Rattle.table.specs.Searched.{Below, WordsIn, Sound, Readable}
+use Rattle.table.specs.Searched.{WordsIn, Sound, Readable}
 use Rattle.table.specs.Columns.{Columns, column_row, fields_of, part_at, part_tally, parts_of, sum_kind, sum_covers}
 use Rattle.table.specs.Sums.{no_tally}
 use Rattle.table.proofs.Tuples.Searched.{parts_descend, sum_covers_search}
@@ -86,40 +83,25 @@ module _ {limit : ℕ} {k : Columns} {cs : List ℕ} {n : ℕ} (s : Sound limit 
     one_is : sum_covers 1 R (parts_of k n) ≡ lookup sum_kind R (parts_of k n)
     one_is = sum_covers_search 1 R (parts_of k n) parts_fall p ∙ search_one sum_kind R (parts_of k n)
 
-    none_is : ((i : ℕ) → i < n → get_or k.clusters i 0 ≢ R) → no_tally ≡ tally_of limit (sum_covers 1 R (parts_of k n))
-    none_is f = ap (tally_of limit) (sym (one_is ∙ lookup_missing sum_kind R (parts_of k n) other))
+    -- no row is R
+    pub missing_is : ((i : ℕ) → i < n → get_or k.clusters i 0 ≢ R) → no_tally ≡ tally_of limit (sum_covers 1 R (parts_of k n))
+    missing_is f = ap (tally_of limit) (sym (one_is ∙ lookup_missing sum_kind R (parts_of k n) other))
       where
         other : (x : Entry Res) → Mem x (parts_of k n) → cl x ≢ R
         other x m e = let q = mem_down (part_at k) n x m in f q.0 q.1 (sym (ap cl q.2) ∙ e)
 
-    -- a is the number of rows below R
-    module _ {a : ℕ} (b : Below k.clusters n R a) where
-      pub missing_is : n ≤ a → no_tally ≡ tally_of limit (sum_covers 1 R (parts_of k n))
-      missing_is h = none_is (λ i l e. omega (arith, b.less i (omega arith)))
+    -- row a is
+    module _ {a : ℕ} (h : a < n) (e : get_or k.clusters a 0 ≡ R) where
+      row_is : sum_covers 1 R (parts_of k n) ≡ cond (sc (part_at k a)) (part_at k a).val sum_kind.none
+      row_is =
+          one_is
+          ∙ subst (λ (x : ℕ). lookup sum_kind x (parts_of k n) ≡ cond (sc (part_at k a)) (part_at k a).val sum_kind.none) e
+          (lookup_row sum_kind (parts_of k n) parts_fall (part_at k a) (down_mem (part_at k) n a h))
 
-      module _ (h : a < n) where
-        pub other_is : get_or k.clusters a 0 ≢ R → no_tally ≡ tally_of limit (sum_covers 1 R (parts_of k n))
-        other_is f = none_is (λ i l e. go i (dec_lt i a) (dec_lt a i) l e)
-          where
-            go : (i : ℕ) → Dec (i < a) → Dec (a < i) → i < n → get_or k.clusters i 0 ≢ R
-            go i (yes q) d l e = omega (arith, b.less i q)
-            go i (no q) (yes g) l e = omega (arith, s.rising.up a i g l, b.more a (le_refl a) h)
-            go i (no q) (no g) l e = let m : a ≡ i = omega arith in f (ap (λ (j : ℕ). get_or k.clusters j 0) m ∙ e)
+      pub unscored_is : scored (get_or k.states a 0) ≡ false → no_tally ≡ tally_of limit (sum_covers 1 R (parts_of k n))
+      unscored_is f = ap (tally_of limit) (sym (row_is ∙ ap (λ (t : Bool). cond t (part_at k a).val sum_kind.none) f))
 
-        row_is : get_or k.clusters a 0 ≡ R
-            → sum_covers 1 R (parts_of k n) ≡ cond (sc (part_at k a)) (part_at k a).val sum_kind.none
-        row_is e =
-            one_is
-            ∙ subst (λ (x : ℕ). lookup sum_kind x (parts_of k n) ≡ cond (sc (part_at k a)) (part_at k a).val sum_kind.none) e
-            (lookup_row sum_kind (parts_of k n) parts_fall (part_at k a) (down_mem (part_at k) n a h))
-
-        pub unscored_is : get_or k.clusters a 0 ≡ R → scored (get_or k.states a 0) ≡ false
-            → no_tally ≡ tally_of limit (sum_covers 1 R (parts_of k n))
-        unscored_is e f =
-            ap (tally_of limit) (sym (row_is e ∙ ap (λ (t : Bool). cond t (part_at k a).val sum_kind.none) f))
-
-        pub found_is : WordsIn k.lows n → get_or k.clusters a 0 ≡ R → scored (get_or k.states a 0) ≡ true
-            → part_tally k a ≡ tally_of limit (sum_covers 1 R (parts_of k n))
-        found_is w e f =
-            part_is w a h (true_T f)
-            ∙ ap (tally_of limit) (sym (row_is e ∙ ap (λ (b : Bool). cond b (part_at k a).val sum_kind.none) f))
+      pub found_is : WordsIn k.lows n → scored (get_or k.states a 0) ≡ true → part_tally k a ≡ tally_of limit (sum_covers 1 R (parts_of k n))
+      found_is w f =
+          part_is w a h (true_T f)
+          ∙ ap (tally_of limit) (sym (row_is ∙ ap (λ (b : Bool). cond b (part_at k a).val sum_kind.none) f))

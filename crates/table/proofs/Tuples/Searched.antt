@@ -1,25 +1,34 @@
 -- Rows in ascending order, and how many of them lie below a number; the rows as parts, and the sums over covers by them.
---     Between, between_…       what bisection keeps: the first are below, the last are not
 --     below-le, below_mono     the place is not after a row that isn't below, nor after that of a larger number
---     Begun, begun_none, begun_asks, begun_more, starts_of_begun     where each highest taxon starts, taxon by taxon
+--     others_parted, below_of_point     where the first rows are below, how many more are
+--     placed                   and where among the others a number stands
+--     Begun, begun_asks, begun_more     where each highest taxon starts, taxon by taxon
 --     parts_descend            the parts of the first rows fall
 --     parts_within             rows above a bound in front leave the others as they are
 --     sum_covers_over           the sum over the covers by scored rows
 --     sum_covers_search, sum_covers_local       it is the search, and rows above what is covered play no part
 -- Assumes nothing.
 use mathlib.Core.Path.{◌≡◌, refl, sym, ap, ◌∙◌, subst}
-use mathlib.Core.Bool.{Bool}
+use mathlib.Core.Bool.{Bool, true, false}
 use mathlib.Core.Logic.{◌≢◌}
 use mathlib.Core.List.{List, map, Memᴰ as Mem}
-use Prim.Native.Nat.{ℕ, zero, suc, ◌+◌, ◌*◌, ◌%◌, ◌^◌, ◌≤◌, ◌<◌}
+use Prim.Native.Nat.{ℕ, zero, suc, ◌+◌, ◌-◌, ◌*◌, ◌%◌, ◌^◌, ◌≤◌, ◌<◌}
 use native.Mathlib.Decide.{ℕ_discrete, dec_le, dec_lt}
 use native.Mathlib.Nat.{le_refl, lt_of_lt_of_le}
 use native.Mathlib.Omega.{arith}
+use borrow.Author.Tests.{ltb-true, ltb-false}
 use lib.Arith.{le-zero}
-use lib.Dec.{T, leb, leb→le}
-use lib.ListN.{length, get_or, set, replicate, length-set, length-replicate, get_or-replicate}
+use lib.Dec.{T, leb, ltb, leb→le}
+use lib.ListN.{length, get_or, set, length-set}
 use lib.Pow.{pow_mono}
 use lib.Seq.{get_or-set_same, get_or-set_other}
+use Rattle.std.proofs.Common.{take, drop, Result, Ok, Err}
+use Rattle.std.proofs.lemmas.Grind.{common_steps}
+use Rattle.std.specs.List.Sorted.{IsPartitionedBy, IsPartitionPoint, IsBinarySearchResult}
+use Rattle.std.specs.Ordering.{nat_cmp}
+use Rattle.std.specs.Result.{MatchResult}
+use Rattle.std.proofs.lemmas.List.{get_or-take, get_or-drop}
+use Rattle.std.proofs.lemmas.List.Sorted.{IsPartitionedBy-ltb, IsNonDecreasingBy-from_default, searched}
 use Rattle.laws.specs.Lists.{keep_if, keep}
 use Rattle.laws.specs.Orders.{down_to}
 use Rattle.laws.proofs.Descends.{Descends, descends_of_falling}
@@ -36,26 +45,12 @@ use Rattle.trees.proofs.Searching.Search.{search}
 use Rattle.trees.proofs.Searching.SearchSum.{search_is}
 use Rattle.kept.specs.Arrays.{Rising}
 use Rattle.kept.proofs.Laws.Marks.{shifted}
-use Rattle.table.specs.Searched.{Past, Below, Starts, WordsIn}
+use Rattle.table.specs.Searched.{Past, Below}
 use Rattle.table.specs.Columns.{Columns, part_at, parts_of, sum_kind, sum_covers}
 
--- ---- bisection
-
--- the first `low` of n clusters are below v, those from `high` on aren't
-pub record Between (cs : List ℕ) (n v low high : ℕ) : Type 0 where
-  pub ordered : low ≤ high
-  pub within : high ≤ n
-  pub less : (i : ℕ) → i < low → get_or cs i 0 < v
-  pub more : (i : ℕ) → high ≤ i → i < n → v ≤ get_or cs i 0
+-- ---- the place of a number
 
 module _ (cs : List ℕ) (n v : ℕ) where
-  pub between_past : (low : ℕ) → Past cs n v low → Between cs n v low n
-  between_past low p = record { ordered = p.within; within = omega arith; less = p.less; more = λ i h k. absurd (omega arith) }
-
-  pub below_of_between : (low high : ℕ) → Between cs n v low high → high ≤ low → Below cs n v low
-  below_of_between low high b h =
-      record { within = omega (arith, b.within); less = b.less; more = λ i l k. b.more i (omega arith) k }
-
   -- a row that isn't below stands at or after the place
   pub below-le : (r i : ℕ) → Below cs n v r → v ≤ get_or cs i 0 → r ≤ i
   below-le r i b h = go (dec_le r i)
@@ -71,30 +66,69 @@ module _ (cs : List ℕ) (n v : ℕ) where
       go (yes l) = below-le r s b (omega (arith, c.more s (le_refl s) l))
       go (no f) = omega (arith, b.within)
 
-  module _ (up : Rising cs n) where
-    rising_le : (i j : ℕ) → i ≤ j → j < n → get_or cs i 0 ≤ get_or cs j 0
-    rising_le i j h k = go (ℕ_discrete i j)
-      where
-        go : Dec (i ≡ j) → get_or cs i 0 ≤ get_or cs j 0
-        go (yes e) = rw e (omega arith)
-        go (no f) = omega (arith, up.up i j (omega arith) k)
+rising_le : {cs : List ℕ} {n : ℕ} → Rising cs n → (i j : ℕ) → i ≤ j → j < n → get_or cs i 0 ≤ get_or cs j 0
+rising_le {cs} {n} up i j h k = go (ℕ_discrete i j)
+  where
+    go : Dec (i ≡ j) → get_or cs i 0 ≤ get_or cs j 0
+    go (yes e) = rw e (omega arith)
+    go (no f) = omega (arith, up.up i j (omega arith) k)
 
-    module _ (low high m : ℕ) (b : Between cs n v low high) (k : m < high) where
-      pub between_above : get_or cs m 0 < v → Between cs n v (m + 1) high
-      between_above h = record {
-        ordered = omega arith;
-        within = b.within;
-        less = λ i l. omega (arith, rising_le i m (omega arith) (omega (arith, b.within)));
-        more = b.more;
-      }
+-- ---- the rows from the place known so far on, as the code looks through them
 
-      pub between_below : low ≤ m → v ≤ get_or cs m 0 → Between cs n v low m
-      between_below l h = record {
-        ordered = l;
-        within = omega (arith, b.within);
-        less = b.less;
-        more = λ i g j. omega (arith, rising_le m i g j);
-      }
+module _ {cs : List ℕ} {n v past : ℕ} (up : Rising cs n) (p : Past cs n v past) where
+  abbrev pub others : List ℕ
+  others = take (n - past) (drop past cs)
+
+  others-length : length others ≡ n - past
+  others-length = let long : n ≤ length cs = up.long in grind (arith, common_steps)
+
+  other_at : (i : ℕ) → i < n - past → get_or others i 0 ≡ get_or cs (past + i) 0
+  other_at i h = get_or-take (n - past) (drop past cs) i 0 h ∙ get_or-drop past cs i 0
+
+  at_other : (i : ℕ) → past ≤ i → i < n → get_or cs i 0 ≡ get_or others (i - past) 0
+  at_other i h k = sym (other_at (i - past) (omega arith) ∙ ap (λ (j : ℕ). get_or cs j 0) (omega arith))
+
+  others_rise : (i j : ℕ) → i ≤ j → j < length others → get_or others i 0 ≤ get_or others j 0
+  others_rise i j h k =
+      let l : j < n - past = omega (arith, others-length) in
+      rw (other_at i (omega arith), other_at j l) (rising_le up (past + i) (past + j) (omega arith) (omega arith))
+
+  -- r of them are below v, as `partition_point` tells
+  pub others_parted : IsPartitionedBy (λ y. ltb y v) others
+  others_parted = IsPartitionedBy-ltb (λ (y : ℕ). y) others v (IsNonDecreasingBy-from_default (λ (y : ℕ). y) others 0 others_rise)
+
+  pub below_of_point : {r : ℕ} → r ≤ length others → IsPartitionPoint (λ y. ltb y v ≡ true) (λ y. ltb y v ≡ false) others r
+      → Below cs n v (past + r)
+  below_of_point {r} h q = record {
+    within = omega (arith, others-length, p.within);
+    less = λ i l. low i (dec_lt i past) l;
+    more = λ i l k. rw (at_other i (omega arith) k) (ltb-false _ _ (q.1 (i - past) 0 (omega arith) (omega (arith, others-length))));
+  }
+    where
+      low : (i : ℕ) → Dec (i < past) → i < past + r → get_or cs i 0 < v
+      low i (yes l) k = p.less i l
+      low i (no f) k =
+          rw (at_other i (omega arith) (omega (arith, others-length))) (ltb-true _ _ (q.0 (i - past) 0 (omega arith) (omega arith)))
+
+  -- v is found among them, or isn't there, as `binary_search` tells
+  abbrev pub Placed : Result ℕ ℕ → Type 0
+  Placed r = MatchResult r (λ i. (past + i < n) × (get_or cs (past + i) 0 ≡ v)) (λ i. (j : ℕ) → j < n → get_or cs j 0 ≢ v)
+
+  pub placed : (r : Result ℕ ℕ) → IsBinarySearchResult (λ y. nat_cmp y v) others r → Placed r
+  placed r h = go r (searched others v r h others_rise)
+    where
+      absent : {i : ℕ} → ((k : ℕ) → k < i → get_or others k 0 < v) → ((k : ℕ) → i ≤ k → k < length others → v < get_or others k 0)
+          → (j : ℕ) → j < n → get_or cs j 0 ≡ v → Dec (j < past) → Dec (j - past < i) → ⊥
+      absent less more j l e (yes h) d = omega (arith, p.less j h)
+      absent less more j l e (no h) (yes k) = omega (arith, less (j - past) k, at_other j (omega arith) l)
+      absent less more j l e (no h) (no k) =
+          omega (arith, more (j - past) (omega arith) (omega (arith, others-length)), at_other j (omega arith) l)
+
+      go : (r : Result ℕ ℕ) → MatchResult r (λ i. (i < length others) × (get_or others i 0 ≡ v))
+          (λ i. (i ≤ length others) × ((k : ℕ) → k < i → get_or others k 0 < v) × ((k : ℕ) → i ≤ k → k < length others → v < get_or others k 0))
+          → Placed r
+      go (Ok i) q = let l : i < n - past = omega (arith, others-length, q.0) in (omega arith, sym (other_at i l) ∙ q.1)
+      go (Err i) q = λ j l e. absent q.1 q.2 j l e (dec_lt j past) (dec_lt (j - past) i)
 
 -- ---- where each highest taxon starts
 
@@ -107,15 +141,6 @@ pub record Begun (cs : List ℕ) (n t p : ℕ) (starts : List ℕ) : Type 0 wher
   pub last : get_or starts 64 0 ≡ n
 
 module _ {cs : List ℕ} {n : ℕ} where
-  pub begun_none : Begun cs n 0 0 (replicate 65 n)
-  begun_none = record {
-    long = length-replicate 65 n;
-    within = omega arith;
-    each = λ h l. absurd (omega arith);
-    past = record { within = omega arith; less = λ i h. absurd (omega arith) };
-    last = get_or-replicate 65 64 n 0 (omega arith);
-  }
-
   module _ {t p : ℕ} {starts : List ℕ} (b : Begun cs n t p starts) where
     pub begun_asks : t < 64 → Past cs n ((1 * 2 ^ t) % 2 ^ 64) p
     begun_asks k = subst (λ (v : ℕ). Past cs n v p) (sym (shifted t k)) b.past
@@ -138,14 +163,6 @@ module _ {cs : List ℕ} {n : ℕ} where
         go : (h : ℕ) → Dec (h ≡ t) → h < t + 1 → Below cs n (2 ^ h) (get_or (set starts t r) h 0)
         go h (yes e) l = rw (e, get_or-set_same starts t r 0 (omega (arith, b.long))) below
         go h (no f) l = rw (get_or-set_other starts t h r 0 f) (b.each h (omega arith))
-
-    pub starts_of_begun : 64 ≤ t → WordsIn cs n → Starts cs n starts
-    starts_of_begun k w = record { long = b.long; each = λ h l. go h (ℕ_discrete h 64) l }
-      where
-        go : (h : ℕ) → Dec (h ≡ 64) → h ≤ 64 → Below cs n (2 ^ h) (get_or starts h 0)
-        go h (yes e) l =
-            rw (e, b.last) (record { within = le_refl n; less = w; more = λ i j p. absurd (omega arith) })
-        go h (no f) l = b.each h (omega arith)
 
 -- ---- the rows as parts
 

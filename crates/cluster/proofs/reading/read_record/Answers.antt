@@ -2,7 +2,7 @@
 use Rattle.std.proofs.Common.{◌≡◌, Bool, sym, ap, ap₂, ◌∙◌}
 use Rattle.laws.specs.Limits.{narrow}
 use Rattle.cluster.specs.declared.record.Record.{Record}
-use Rattle.answers.specs.declared.refusal.Answer.TheVariants.{Done}
+use Rattle.std.specs.Prelude.{Ok}
 use Rattle.answers.specs.Outcome.{outcome_of}
 use Rattle.cluster.specs.Rule.{broken_rule, is_kept}
 use Rattle.cluster.specs.Reading.{rule_of}
@@ -23,7 +23,7 @@ returns-then-bytes-ne-RECORD_BYTES c =
 pub returns-then-is_kept : goal.returns-then-is_kept
 returns-then-is_kept c =
     let kept = ruling ((goal.at.returns-then-is_kept c).After-is_kept) in
-    ap (outcome_of (Done 0)) c.record_of-record.ensures
+    ap (outcome_of (Ok 0)) c.record_of-record.ensures
     ∙ sym (read_record-kept c.args.bytes.now c.if-bytes-ne-RECORD_BYTES.false (kept ∙ c.if-is_kept.true))
 
 pub returns : goal.returns

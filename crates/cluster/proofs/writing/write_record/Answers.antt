@@ -1,6 +1,6 @@
 -- `cluster::writing::write_record` meets its contract: each return is one case of writing. Assumes nothing.
 use Rattle.std.proofs.Common.{◌≡◌, Bool, false, sym, ap, ◌∙◌, arith}
-use Rattle.answers.specs.declared.refusal.Answer.TheVariants.{Done}
+use Rattle.std.specs.Prelude.{Ok}
 use Rattle.cluster.specs.declared.record.Record.{Record}
 use Rattle.answers.specs.Outcome.{outcome_of}
 use Rattle.cluster.specs.Record.{record_bytes}
@@ -29,5 +29,5 @@ returns-then-room-lt-RECORD_BYTES c =
 pub returns : goal.returns
 returns c =
     let told = ruling ((goal.at.returns c).After-is_kept) in
-    ap (outcome_of (Done record_bytes)) c.put_record.ensures
+    ap (outcome_of (Ok record_bytes)) c.put_record.ensures
     ∙ sym (write_record-kept c.args.r c.args.room.now (told ∙ c.if-not-is_kept.false) (omega arith))

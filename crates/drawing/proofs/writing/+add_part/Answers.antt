@@ -2,19 +2,16 @@
 -- Assumes nothing.
 use Rattle.std.proofs.Common.{sym, ap, ◌∙◌, arith}
 use Rattle.texts.specs.Text.{with_bytes}
-use Rattle.drawing.proofs.Written.{taxon-written, writing_begins, writing_goes_on, writing_ends, turn, taxon-lt}
+use Rattle.drawing.proofs.Written.{taxon-written, writing_begins, writing_goes_on, writing_ends, turn}
 use Rattle.drawing.proofs.writing.+add_part.Goals as goal
 
 pub returns-then-is_single : goal.returns-then-is_single
 returns-then-is_single t c =
     c.add_decimal.ensures
-    ∙ ap (with_bytes c.args.text) (taxon-written c.args.xs.now c.args.part (sym c.if-is_single.ensures) c.lowest.ensures)
+    ∙ ap (with_bytes c.args.text) (taxon-written c.args.xs.now c.args.part (sym c.if-is_single.ensures) (c.from.ensures ∙ c.lowest.ensures))
 
 pub loop-left-init : goal.loop-left-init
 loop-left-init t c = writing_begins _ c.requires.nests c.requires.mem (sym c.if-is_single.ensures)
-
-pub child_with-child-requires : goal.child_with-child-requires
-child_with-child-requires t c = omega (arith, c.lowest-in-loop-left.ensures, taxon-lt c.loop-left.invariant c.loop-left-test.true)
 
 pub add_part-longer-requires : goal.add_part-longer-requires
 add_part-longer-requires t c =

@@ -6,9 +6,6 @@ use Rattle.texts.specs.Text.{with_bytes}
 use Rattle.drawing.proofs.Written.{text-written}
 use Rattle.drawing.proofs.writing.text_of.Goals as goal
 
-pub add_part-requires : goal.add_part-requires
-add_part-requires c = let tree = c.requires.tree_on in record { nests = tree.nests; mem = tree.top }
-
 pub returns : goal.returns
 returns c =
     let xs = c.args.xs.now in

@@ -1,31 +1,34 @@
--- `kept::fitness::has_right_rows` meets its contract: a row that is not right ends the loop, another is passed. Assumes nothing.
-use Rattle.std.proofs.Common.{◌≡◌, ◌-◌, sym, ap, ◌∙◌, arith, rules, get_or, pos}
-use mir.Facts.{to_z-of_z}
-use mir.Val.{SFits}
-use Rattle.std.specs.Int.{w32, w64}
-use Rattle.laws.specs.Limits.{narrow}
-use Rattle.kept.specs.View.{clusters_down}
-use Rattle.kept.specs.Fit.{has_right_rows}
-use Rattle.kept.proofs.Laws.Fit.{right-more, right_stop, right-none}
+-- `kept::fitness::has_right_rows` meets its contract: the rows are fit, and the places past them empty. Assumes nothing.
+use Rattle.std.proofs.Common.{◌≡◌, ◌-◌, ℕ, sym, ◌∙◌, rules, tests}
+use Rattle.std.specs.List.{list_all, range_with_len}
+use Rattle.std.proofs.lemmas.Iterator.{YieldsList-from_range}
+use Rattle.std.proofs.lemmas.Iterator.Search.{all_from_yields_List}
+use Rattle.laws.specs.Limits.{narrow, row_cap}
+use Rattle.kept.specs.View.{entry_at, clusters_in}
+use Rattle.kept.specs.Blank.{is_empty}
+use Rattle.kept.specs.Fit.{fit_entry}
+use Rattle.kept.proofs.Laws.Fit.{right_is}
 use Rattle.kept.proofs.fitness.has_right_rows.Goals as goal
+use Rattle.kept.proofs.fitness.has_right_rows.Goals.{After-all}
 
-pub returns-then-not-is_row_right : goal.returns-then-not-is_row_right
-returns-then-not-is_row_right c =
-    let weight_fits : SFits w32 (get_or c.args.t.weights (c.loop-i.i - 1) (pos 0)) = search rules in
-    let best_fits : SFits w64 (get_or c.args.t.bests (c.loop-i.i - 1) (pos 0)) = search rules in
-    let wrong = rw (to_z-of_z weight_fits, to_z-of_z best_fits) at (sym c.if-not-is_row_right.ensures) in
-    sym (c.loop-i.invariant.1 ∙ right_stop _ _ _ _ c.loop-i.i c.loop-i-test.true wrong)
+-- what is told of the rows
+fits : (c : goal.After-all) → let t = c.args.t.now in
+    c.all.result ≡ list_all (λ (i : ℕ). fit_entry narrow (clusters_in t) (entry_at t i)) (range_with_len 0 t.rows)
+fits c =
+    let t = c.args.t.now in
+    all_from_yields_List (λ (i : ℕ). fit_entry narrow (clusters_in t) (entry_at t i)) _ _ _ c.all.ensures.ran
+    (YieldsList-from_range 0 t.rows t.rows (cc) (search rules)) (λ x b q k. search (rules, tests))
 
-pub loop-i-preserved : goal.loop-i-preserved
-loop-i-preserved c =
-    let weight_fits : SFits w32 (get_or c.args.t.weights (c.loop-i.i - 1) (pos 0)) = search rules in
-    let best_fits : SFits w64 (get_or c.args.t.bests (c.loop-i.i - 1) (pos 0)) = search rules in
-    let right = rw (to_z-of_z weight_fits, to_z-of_z best_fits) at (sym c.if-not-is_row_right.ensures) in
-    (omega (arith, c.loop-i.invariant.0), c.loop-i.invariant.1 ∙ right-more _ _ _ _ c.loop-i.i c.loop-i-test.true right)
+pub returns-then-all : goal.returns-then-all
+returns-then-all c =
+    let t = c.args.t.now in
+    let empties = all_from_yields_List (λ (i : ℕ). is_empty (entry_at t i)) _ _ _ c.all-then-all.ensures.ran
+    (YieldsList-from_range t.rows row_cap (row_cap - t.rows) (cc) (search rules)) (λ x b q k. search (rules, tests)) in
+    let first = fits ((goal.at.returns-then-all c).After-all) in
+    empties ∙ rw (sym first, c.if-all.true) at (right_is narrow (clusters_in t) t t.rows c.requires.capped)
 
-pub returns : goal.returns
-returns c =
-    let a = c.args in
-    let end : c.loop-i.i ≡ 0 = omega arith in
-    let cs = clusters_down a.t.clusters a.n in
-    sym (c.loop-i.invariant.1 ∙ ap (has_right_rows narrow cs a.t a.n) end ∙ right-none narrow cs a.t a.n)
+pub returns-else-all : goal.returns-else-all
+returns-else-all c =
+    let t = c.args.t.now in
+    let first = fits ((goal.at.returns-else-all c).After-all) in
+    c.if-all.false ∙ rw (sym first, c.if-all.false) at (right_is narrow (clusters_in t) t t.rows c.requires.capped)

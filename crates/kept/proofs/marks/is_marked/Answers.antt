@@ -12,7 +12,7 @@ pub returns-then-i-lt-ROW_CAP : goal.returns-then-i-lt-ROW_CAP
 returns-then-i-lt-ROW_CAP c =
     let a = c.args in sym (mark-past a.low a.high a.i (Fits-lt-pow c.ranges.low) c.if-i-lt-WORD_ROWS.false)
 
-pub returns : goal.returns
-returns c =
+pub returns-else-i-lt-ROW_CAP : goal.returns-else-i-lt-ROW_CAP
+returns-else-i-lt-ROW_CAP c =
     let a = c.args in
     sym (mark_over a.low a.high a.i (Fits-lt-pow c.ranges.low) (Fits-lt-pow c.ranges.high) c.if-i-lt-ROW_CAP.false)

@@ -6,8 +6,7 @@ use Rattle.kept.proofs.marks.is_word_fit.Given as goal
 
 abbrev pub invariant-loop-rest : goal.invariant-loop-rest
 invariant-loop-rest l =
-    (l.rest ≤ l.word)
-    × (every_bit l.word 64 (is_mark_fit l.clusters l.n l.cluster l.base) ≡ every_bit l.rest 64 (is_mark_fit l.clusters l.n l.cluster l.base))
+    let fit = is_mark_fit l.clusters l.cluster l.base in (l.rest ≤ l.word) × (every_bit l.word 64 fit ≡ every_bit l.rest 64 fit)
 
 abbrev pub decreases-loop-rest : goal.decreases-loop-rest
 decreases-loop-rest l = l.rest

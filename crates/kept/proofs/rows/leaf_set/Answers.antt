@@ -1,27 +1,19 @@
--- `kept::rows::leaf_set` meets its contract: a scored row adds its cluster, another adds none. Assumes nothing.
-use Rattle.std.proofs.Common.{◌≡◌, ℕ, ◌+◌, sym, ap, ◌∙◌, arith, bit_or}
-use native.Mathlib.Numerals.{add-one}
-use Rattle.laws.specs.Orders.{down_to}
-use Rattle.trees.proofs.Formula.Rows.{leaves-scored, leaves-unscored}
-use Rattle.kept.specs.View.{row_at}
-use Rattle.kept.proofs.rows.leaf_set.Invariants.{leaves_to}
+-- `kept::rows::leaf_set` meets its contract: the chain joins the scored clusters of the rows that are looked at. Assumes nothing.
+use Rattle.std.proofs.Common.{ℕ, bit_or, take, rules, tests, ◌∙◌}
+use Rattle.std.proofs.lemmas.Iterator.{YieldsList-from_slice, YieldsList-from_zip}
+use Rattle.std.proofs.lemmas.Iterator.Consumers.{YieldsList-at, YieldsList-from_filter, fold_from_yields_List}
+use Rattle.laws.specs.State.{scored}
+use Rattle.kept.proofs.Laws.Rows.{leaf_set_is}
 use Rattle.kept.proofs.rows.leaf_set.Goals as goal
-use Rattle.kept.proofs.rows.leaf_set.Goals.{then-is_scored, else-is_scored}
 
-pub loop-i-preserved : goal.loop-i-preserved
-loop-i-preserved c =
+pub returns : goal.returns
+returns c =
     let t = c.args.t in
-    let i = c.loop-i.i in
-    let so_far = c.loop-i.invariant.2 in
-    let is = sym c.is_scored.ensures in
-    let step : c.if-is_scored.all ≡ leaves_to t (i + 1) =
-    rw (add-one i)
-    (elim c.if-is_scored.branch [
-      | then-is_scored w ↦
-          w.all-is
-          ∙ ap (λ (x : ℕ). bit_or x (row_at t i).cluster) so_far
-          ∙ leaves-scored (row_at t i) (down_to (row_at t) i) (is ∙ w.if-is_scored.true)
-      | else-is_scored w ↦ w.all-is ∙ so_far ∙ leaves-unscored (row_at t i) (down_to (row_at t) i) (is ∙ w.if-is_scored.false)
-    ])
-    in
-    (omega arith, c.loop-i.invariant.1, step)
+    let n = c.shown_rows-n.result in
+    fold_from_yields_List _ (λ (a : ℕ) (p : ℕ × ℕ). bit_or a p.0) 0 _ c.fold.ensures.ran
+    (YieldsList-from_filter _ (λ (p : ℕ × ℕ). scored p.1)
+    (YieldsList-at c.filter.ensures.source
+    (YieldsList-from_zip (YieldsList-from_slice (take n t.clusters) cc) (YieldsList-from_slice (take n t.states) cc)))
+    c.filter.ensures.closure (λ x b q k. search (rules, tests)))
+    (λ a x b q k. search rules)
+    ∙ leaf_set_is t n c.shown_rows-n.ensures (search rules) (search rules)

@@ -1,19 +1,16 @@
--- `members::nesting::has_taxa` meets its contract: a taxon that isn't in the set ends the loop, and at the end all are. Assumes nothing.
-use Rattle.std.proofs.Common.{◌≡◌, ◌<◌, Bool, not, ◌||◌, sym, ap, ap₂, ◌∙◌, arith}
-use Rattle.laws.specs.Limits.{narrow}
-use Rattle.members.proofs.Laws.TreeTest.{has_taxon, has_taxa, taxon_shift, taxa_stop}
+-- `members::nesting::has_taxa` meets its contract: the chain asks of the taxa upward. Assumes nothing.
+use Rattle.std.proofs.Common.{◌*◌, ◌^◌, ◌%◌, refl, sym, ◌∙◌, rules, tests}
+use Rattle.std.proofs.lemmas.Iterator.{YieldsList-from_map, YieldsList-from_range}
+use Rattle.std.proofs.lemmas.Iterator.Search.{all_from_yields_List}
+use Rattle.laws.specs.Limits.{narrow, word_values}
+use Rattle.members.proofs.Laws.TreeTest.{has_taxon, taxa_upward}
 use Rattle.members.proofs.nesting.has_taxa.Goals as goal
-
-pub returns-then-not-has : goal.returns-then-not-has
-returns-then-not-has c =
-    let a = c.args in
-    let i = c.loop-taxon.taxon in
-    let below : i < narrow.taxa = omega arith in
-    let fails = ap₂ (λ (s t : Bool). not s || t) (sym c.if-is_inside.ensures) (sym c.if-not-has.ensures) in
-    sym (taxa_stop (has_taxon a.c a.xs.now) narrow.taxa i (taxon_shift i below) below fails)
 
 pub returns : goal.returns
 returns c =
-    let a = c.args in
-    let end : c.loop-taxon.taxon ≡ narrow.taxa = omega arith in
-    sym (ap (λ n. has_taxa n a.c a.xs.now) (sym end) ∙ c.loop-taxon.invariant.1)
+    let p = has_taxon c.args.c c.args.xs.now in
+    let upward = YieldsList-from_range 0 narrow.taxa narrow.taxa c.map.ensures.source refl in
+    all_from_yields_List p _ _ _ c.all.ensures.ran
+    (YieldsList-from_map _ (λ i. 1 * 2 ^ i % word_values) upward c.map.ensures.closure (λ x r q k. search rules))
+    (λ x b q k. search (rules, tests))
+    ∙ sym (taxa_upward p narrow.taxa)

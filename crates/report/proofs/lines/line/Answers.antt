@@ -1,18 +1,10 @@
 -- `report::lines::line` meets its contract: the line, put into the room. Assumes nothing.
 use Rattle.std.proofs.Common.{List, [], ℕ, ap, ◌∙◌}
 use Rattle.answers.specs.Outcome.{written}
-use Rattle.texts.proofs.Laws.{text-front, text-fits, text-count}
+use Rattle.texts.proofs.Laws.{text-front}
 use Rattle.report.specs.Line.{line_of}
 use Rattle.report.proofs.Laws.Line.{line_held, line-put}
 use Rattle.report.proofs.lines.line.Goals as goal
-
-pub slice_bounds-bytes-end : goal.slice_bounds-bytes-end
-slice_bounds-bytes-end c =
-    let a = c.args in text-fits (line_of a.list.now a.degree) (line_held a.list.now a.degree c.ranges.degree.fits c.line_of-text.ensures)
-
-pub slice_bounds-put-end : goal.slice_bounds-put-end
-slice_bounds-put-end c =
-    let a = c.args in text-count (line_of a.list.now a.degree) (line_held a.list.now a.degree c.ranges.degree.fits c.line_of-text.ensures)
 
 pub returns : goal.returns
 returns c =

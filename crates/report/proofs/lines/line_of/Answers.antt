@@ -5,14 +5,14 @@ use Rattle.texts.specs.Text.{holding, with_bytes}
 use Rattle.report.proofs.Laws.Line.{built-refused, built_done}
 use Rattle.report.proofs.lines.line_of.Goals as goal
 
-pub returns-in-Refused : goal.returns-in-Refused
-returns-in-Refused c =
+pub returns-in-Err : goal.returns-in-Err
+returns-in-Err c =
     let a = c.args in
     c.refused_line.ensures
-    ∙ ap (with_bytes (holding [])) (built-refused a.list.now a.degree c.build-built.ensures c.in-Refused.is)
+    ∙ ap (with_bytes (holding [])) (built-refused a.list.now a.degree c.build-built.ensures c.in-Err.is)
 
-pub returns-in-Done : goal.returns-in-Done
-returns-in-Done c =
+pub returns-in-Ok : goal.returns-in-Ok
+returns-in-Ok c =
     let a = c.args in
     c.table_line.ensures
-    ∙ ap (with_bytes (holding [])) (built_done a.list.now a.degree c.build-built.ensures c.in-Done.is)
+    ∙ ap (with_bytes (holding [])) (built_done a.list.now a.degree c.build-built.ensures c.in-Ok.is)

@@ -21,38 +21,41 @@ capped t f = (is_fit→ narrow narrow_facts t (true_T f)).bounds.capped
 
 pub returns-then-not-is_fit : goal.returns-then-not-is_fit
 returns-then-not-is_fit c =
-    let a = c.args in rescore_unfit narrow a.given a.cluster a.weight a.state (sym c.if-not-is_fit.ensures)
+    let a = c.args in
+    c.refused.ensures ∙ rescore_unfit narrow a.given a.cluster a.weight a.state (sym c.if-not-is_fit.ensures)
 
 pub returns-then-given-at : goal.returns-then-given-at
 returns-then-given-at c =
     let a = c.args in
     let fit = sym c.if-not-is_fit.ensures in
-    rescore_no_row narrow a.given a.cluster a.weight a.state fit
+    c.refused-then-given-at.ensures
+    ∙ rescore_no_row narrow a.given a.cluster a.weight a.state fit
     (row_missing a.given (capped a.given fit) a.cluster _ c.place_of-at.ensures (omega arith))
 
 pub returns-then-not-is_score : goal.returns-then-not-is_score
 returns-then-not-is_score c =
     let a = c.args in
     let fit = sym c.if-not-is_fit.ensures in
-    rescore_bad_score narrow a.given a.cluster a.weight a.state fit
+    c.refused-then-not-is_score.ensures
+    ∙ rescore_bad_score narrow a.given a.cluster a.weight a.state fit
     (row_listed a.given (capped a.given fit) a.cluster _ c.place_of-at.ensures c.if-given-at.false)
     (rw (to_z-of_z c.ranges.weight) at (sym c.if-not-is_score.ensures))
 
 -- ---- the row of the cluster is one of the 128
 
-pub offset_bounds-weights-at : goal.offset_bounds-weights-at
-offset_bounds-weights-at c = omega (arith, c.if-given-at.false, capped c.args.given (sym c.if-not-is_fit.ensures))
+pub offset_bounds-table-at : goal.offset_bounds-table-at
+offset_bounds-table-at c = omega (arith, c.if-given-at.false, capped c.args.given (sym c.if-not-is_fit.ensures))
 
-pub bounds-weights-at : goal.bounds-weights-at
-bounds-weights-at c = omega (arith, c.if-given-at.false, capped c.args.given (sym c.if-not-is_fit.ensures))
+pub bounds-table-at : goal.bounds-table-at
+bounds-table-at c = omega (arith, c.if-given-at.false, capped c.args.given (sym c.if-not-is_fit.ensures))
 
-pub bounds-states-at : goal.bounds-states-at
-bounds-states-at c = omega (arith, c.if-given-at.false, capped c.args.given (sym c.if-not-is_fit.ensures))
+pub bounds-table-at-2 : goal.bounds-table-at-2
+bounds-table-at-2 c = omega (arith, c.if-given-at.false, capped c.args.given (sym c.if-not-is_fit.ensures))
 
 -- ---- the table with the new score
 
-pub reworked-requires : goal.reworked-requires
-reworked-requires c =
+pub again-requires : goal.again-requires
+again-requires c =
     let a = c.args in
     let fit = sym c.if-not-is_fit.ensures in
     let sized : Sized a.given = search rules in
@@ -68,7 +71,7 @@ returns c =
     let sized : Sized a.given = search rules in
     let listed = row_listed a.given (capped a.given fit) a.cluster _ c.place_of-at.ensures c.if-given-at.false in
     let found = row_found a.given (capped a.given fit) a.cluster _ c.place_of-at.ensures c.if-given-at.false in
-    c.reworked.ensures
-    ∙ rescore_done narrow a.given a.cluster a.weight a.state fit listed (rw (to_z-of_z c.ranges.weight) at (sym c.if-not-is_score.ensures))
-    (score_done narrow narrow_facts a.given a.cluster a.weight a.state sized (true_T fit) c.place_of-at.result c.if-given-at.false found
+    rescore_done narrow a.given a.cluster a.weight a.state fit listed (rw (to_z-of_z c.ranges.weight) at (sym c.if-not-is_score.ensures))
+    (c.again.ensures
+    ∙ score_done narrow narrow_facts a.given a.cluster a.weight a.state sized (true_T fit) c.place_of-at.result c.if-given-at.false found
     (to_z-of_z c.ranges.weight))

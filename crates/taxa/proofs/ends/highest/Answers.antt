@@ -1,5 +1,4 @@
 -- `taxa::ends::highest` meets its contract, by the law `highest_is` at 64 digits. Assumes nothing.
-use Rattle.std.proofs.Common.{◌^◌, ◌<◌}
 use mir.Facts.{Fits-lt-pow}
 use Rattle.taxa.proofs.Leading.{leading_le, highest_is}
 use Rattle.taxa.proofs.ends.highest.Goals as goal

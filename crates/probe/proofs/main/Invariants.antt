@@ -1,5 +1,0 @@
--- The measure is the turns that are left; nothing has to hold from turn to turn. Assumes nothing.
-use Rattle.probe.proofs.main.Given as goal
-
-abbrev pub decreases-loop-turns : goal.decreases-loop-turns
-decreases-loop-turns l = l.turns
