@@ -41,7 +41,7 @@ pub enum Refusal {
 // it wrote nothing.
 pub type Answer = Result<usize, Refusal>;
 
-// The rules' number of a refusal, 1 to 13.
+// The rules' number of a refusal, 1 to 13: told case by case, since the rules give the numbers and no derive does.
 pub fn number_of(refusal: Refusal) -> u64
     ensures { result ≡ number_of refusal }
 {

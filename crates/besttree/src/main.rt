@@ -3,7 +3,6 @@
 // line on standard error says so, and the lines printed are those of the bytes that came.
 #![tactic(auto)]
 
-use answers::Answer;
 use input::read_input;
 use report::{LINE_CAP, line};
 use std::io;
@@ -30,6 +29,7 @@ fn print_lines(to: &impl Print, list: &[u8]) -> io::Result<()> {
 }
 
 // Says a text; where that can't be written, nothing is left to be done.
+// `gelsheet` has the same line of its own: a program hands nothing on, and a crate for one line is no plainer.
 fn tell(to: &impl Print, text: &[u8]) {
     let _ = to.write_all(text);
 }

@@ -11,13 +11,14 @@ use crate::rule::is_kept;
 use answers::{Answer, Refusal};
 
 // What reading one record gives: the record is all zero where the answer is a refusal.
+// The answer stands beside it, and is no `Result` over it: the rules say what record is read on a refusal (`read_record` in `specs/`).
 #[derive(Clone, Copy)]
 pub struct Reading {
     pub answer: Answer,
     pub record: Record,
 }
 
-// A refused reading, whose record is all zero.
+// A refused reading, whose record is all zero; `table` has the like for a build and a rescoring, with other values.
 fn not_read(refusal: Refusal) -> Reading
     ensures { reading_of result ≡ outcome_of (Err refusal) zero_record }
 {

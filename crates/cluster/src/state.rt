@@ -12,6 +12,7 @@ pub(crate) const UNSCORED: u8 = 0;
 pub const SCORED: u8 = 1;
 
 // Whether the state is that of a scored cluster.
+#[tactic(auto, unfolding(laws::specs::State::scored))]
 pub fn is_scored(state: u8) -> bool
     ensures { result ≡ scored state }
 {

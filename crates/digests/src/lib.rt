@@ -12,7 +12,6 @@ ghost use Rattle.gel.specs.Import.{import_sheet};
 ghost use Rattle.digests.specs.Digest.{row_digest_at, results_of, digest, rescored_times};
 ghost use Rattle.digests.specs.Told.{told_of};
 
-use answers::Answer;
 use gel::import_sheet;
 use kept::ROW_CAP;
 use table::{Table, build, rescore};

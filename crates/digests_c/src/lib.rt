@@ -1,5 +1,5 @@
 // The functions of `digests` as a static library, for programs in other languages to call under C names. Each promises what it promises
-// there.
+// there. The two stand apart because a crate is a library, which `demands` cites, or a static library, which C links.
 //     ladlepine_build       the digest of a built table
 //     ladlepine_rescore     the digest of a built table after a number of rescorings of one cluster
 //     ladlepine_import      how many records importing a gel sheet writes into a room

@@ -16,7 +16,7 @@ use kept::Table;
 use members::drawn_tree;
 use texts::{Text, put};
 
-// Clusters as 32-bit numbers at the start of a room.
+// Clusters as 32-bit numbers at the start of a room, each made narrower: no method of slices does that.
 #[tactic(auto, using(crate::proofs::Laws::Copied::copied_more, crate::proofs::Laws::Copied::narrow_at))]
 fn put_clusters(clusters: &[u64], room: &mut [u32])
     requires clusters_in_bounds { length clusters.now ≤ length room.old }
@@ -30,16 +30,16 @@ fn put_clusters(clusters: &[u64], room: &mut [u32])
 
 // The clusters of the tree that the leaf set's row marks, ascending, at the start of a room counted in numbers; the answer tells how many.
 // Of a built table it is the first heaviest. Refused 8 (fitness), 7, 8 (marks), 11 in that order, and the room is then left as it was.
-#[tactic(auto, using(crate::proofs::Laws::Draw::drawn_fits))]
 pub fn tree(t: Table, room: &mut [u32]) -> Answer
     ensures { outcome_of result room.new ≡ draw_tree narrow t room.old }
 {
     let drawn = drawn_tree(t)?;
-    if room.len() < drawn.size {
+    let size = drawn.clusters.len();
+    if room.len() < size {
         return Err(Refusal::NoRoom);
     }
-    put_clusters(&drawn.clusters[..drawn.size], room);
-    Ok(drawn.size)
+    put_clusters(&drawn.clusters, room);
+    Ok(size)
 }
 
 // What is drawn of a table as a text: the leaf set's row, and the text of its members.
@@ -50,12 +50,12 @@ pub struct DrawnText {
 }
 
 // The Newick text of the same tree. Refused 8 (fitness), 7, 8 (marks) in that order.
-#[tactic(auto, using(crate::proofs::Laws::Draw::drawn_fits, crate::proofs::Laws::Draw::drawn_row))]
+#[tactic(auto, using(crate::proofs::Laws::Draw::drawn_row))]
 pub fn drawn_text(t: Table) -> Result<DrawnText, Refusal>
     ensures { drawn_text_of result ≡ drawn_text narrow t }
 {
     let drawn = drawn_tree(t)?;
-    let text = text_of(&drawn.clusters[..drawn.size], t.clusters[drawn.row]);
+    let text = text_of(&drawn.clusters, t.clusters[drawn.row]);
     Ok(DrawnText {
         row: drawn.row,
         text,

@@ -24,10 +24,8 @@ impl Sheet<'_> {
         ensures { result ≡ read_of (column_at self.now.bytes.now j) }
     {
         let mut cluster = 0;
-        let mut at = self.bytes.len() + j;
-        for _ in 0..self.lines {
-            at -= self.width + 1;
-            let mark = self.bytes[at];
+        for line in self.bytes.rchunks_exact(self.width + 1) {
+            let mark = line[j];
             if mark == UNREAD {
                 return None;
             }

@@ -43,6 +43,7 @@ fn put_rows(keys: &[u64], room: &mut [u8])
     requires { Keys keys.now × (length keys.now * record_bytes ≤ length room.old) }
     ensures { room.new ≡ put_into (bytes_of_rows narrow (rows_of_keys keys.now)) room.old }
 {
+    // By place: once the pieces of `chunks_exact_mut` are written, a proof knows the length of the room, not what it holds.
     for (i, key) in keys.iter().enumerate() {
         let at = i * RECORD_BYTES;
         // never refused: the record of a key keeps the rules, and has its room

@@ -1,6 +1,6 @@
 // A gel sheet to a list of records: lines of 0, 1 and ?, a line for each taxon, whose columns are clusters. Nothing public has a
 // `requires`, and its `ensures` is one equation to a definition of `specs/`.
-//     Import           what importing a sheet gives: an answer, and how many columns have a ?
+//     Import           what importing a sheet gives: how many records, and how many columns have a ?
 //     import_sheet     a sheet to the list of its clusters
 #![tactic(auto)]
 

@@ -19,6 +19,7 @@ const INPUT_CAP: usize = 4129;
 const LIST_CAP: usize = 1536;
 
 // Says a text; where that can't be written, nothing is left to be done.
+// `besttree` has the same line of its own: a program hands nothing on, and a crate for one line is no plainer.
 fn tell(to: &impl Print, text: &[u8]) {
     let _ = to.write_all(text);
 }

@@ -21,6 +21,7 @@ use cluster::RECORD_BYTES;
 const LIST_BYTES: usize = 1536;
 
 // What reading a list gives: how many rows, and the rows in ascending order of their clusters; all zero past them.
+// The columns are those of a table, whose form the rules name, so that a build takes them over as they stand.
 #[derive(Clone, Copy)]
 pub struct Listing {
     pub rows: usize,

@@ -3,7 +3,7 @@
 //     read_all      the records of a list, unless one breaks the rules
 ghost use Rattle.lists.specs.Read.{Whole, ReadTo};
 
-use answers::{Answer, Refusal};
+use answers::Refusal;
 use cluster::{RECORD_BYTES, read_record};
 
 // Element i of each array is record i.

@@ -10,16 +10,15 @@ use Rattle.kept.specs.declared.table.Table.{Table}
 use Rattle.kept.specs.Fit.{is_fit}
 use Rattle.kept.specs.Rows.{leaf_set}
 use Rattle.members.specs.declared.marks.Members.{Members}
-use Rattle.members.specs.Marked.{marked_to, members_in, scored_to, weight_to}
+use Rattle.members.specs.Marked.{members_to, scored_to, weight_to}
 use Rattle.members.specs.Draw.{leaf_row, has_tree}
 
 abbrev pub weight_span : ℕ
 weight_span = 2 ^ 31
 
 pub record Gathered (t : Table) (m n : ℕ) (r : Members) : Type 0 where
-  pub size : r.size ≡ length (marked_to m n)
-  pub few : r.size ≤ n
-  pub clusters : r.clusters ≡ members_in t.clusters (marked_to m n)
+  pub few : length r.clusters.items ≤ n
+  pub clusters : r.clusters.items ≡ members_to t.clusters m n
   pub weight : r.weight ≡ weight_to t.weights m n
   pub near : nat_abs (weight_to t.weights m n) ≤ weight_span * n
   pub scored : scored_to t.states m n ≡ true

@@ -11,14 +11,14 @@ ghost use Rattle.members.specs.Gathered.{Found};
 use crate::marks::members_of;
 use crate::nesting::is_tree;
 use answers::Refusal;
-use kept::{Table, is_fit, leaf_set, place_of};
+use arrayvec::ArrayVec;
+use kept::{ROW_CAP, Table, is_fit, leaf_set, place_of};
 
-// What is drawn of a table: the leaf set's row, and its members, which are the first `size` clusters, ascending; the others are zero.
-#[derive(Clone, Copy)]
+// What is drawn of a table: the leaf set's row, and its members, ascending.
+#[derive(Clone, Drop)]
 pub struct Drawn {
     pub row: usize,
-    pub clusters: [u64; 128],
-    pub size: usize,
+    pub clusters: ArrayVec<u64, ROW_CAP>,
 }
 
 // The members of row `row`, the leaf set's. Refused 8 where its marks aren't a tree of its best weight.
@@ -29,14 +29,12 @@ fn drawn_members(t: &Table, top: u64, row: usize) -> Result<Drawn, Refusal>
     let Some(members) = members_of(t, t.members_low[row], t.members_high[row]) else {
         return Err(Refusal::Unfit);
     };
-    let clusters = &members.clusters[..members.size];
-    if members.weight != t.bests[row] || !is_tree(clusters, top, t.degree) {
+    if members.weight != t.bests[row] || !is_tree(&members.clusters, top, t.degree) {
         return Err(Refusal::Unfit);
     }
     Ok(Drawn {
         row,
         clusters: members.clusters,
-        size: members.size,
     })
 }
 

@@ -6,15 +6,15 @@ ghost use Rattle.laws.specs.Limits.{row_cap, word_values};
 ghost use Rattle.members.specs.Marked.{scored_to};
 ghost use Rattle.members.specs.Gathered.{Gathered};
 
+use arrayvec::ArrayVec;
 use cluster::is_scored;
-use kept::{Table, is_marked};
+use kept::{ROW_CAP, Table, is_marked};
 
-// The marked rows: their clusters are the first `size`, ascending, and the others are zero; their weights added up.
-// An array and how much of it is used, as in `Drawn`: a list that grows would allocate, and what allocates can fail.
-#[derive(Clone, Copy)]
+// The marked rows: their clusters, ascending, and their weights added up. There is room for each row: a list that grows would allocate, and
+// what allocates can fail.
+#[derive(Drop)]
 pub(crate) struct Members {
-    pub(crate) clusters: [u64; 128],
-    pub(crate) size: usize,
+    pub(crate) clusters: ArrayVec<u64, ROW_CAP>,
     pub(crate) weight: i64,
 }
 
@@ -25,8 +25,7 @@ pub(crate) fn members_of(t: &Table, low: u64, high: u64) -> Option<Members>
         MatchOption result (scored_to t.now.states marks t.now.rows ≡ false) (λ r. Gathered t.now marks t.now.rows r) }
 {
     let mut members = Members {
-        clusters: [0; 128],
-        size: 0,
+        clusters: ArrayVec::new(),
         weight: 0,
     };
     for i in 0..t.rows {
@@ -34,8 +33,7 @@ pub(crate) fn members_of(t: &Table, low: u64, high: u64) -> Option<Members>
             if !is_scored(t.states[i]) {
                 return None;
             }
-            members.clusters[members.size] = t.clusters[i];
-            members.size += 1;
+            members.clusters.push(t.clusters[i]);
             members.weight += i64::from(t.weights[i]);
         }
     }

@@ -35,28 +35,34 @@ enum Operation {
     Sheet,
 }
 
-impl Operation {
-    // The operation that the first byte of a case names.
-    fn named_by(byte: u8) -> Option<Operation> {
+// No operation has this byte.
+#[derive(Clone, Copy)]
+struct Unknown;
+
+// The operation that the first byte of a case names.
+impl TryFrom<u8> for Operation {
+    type Error = Unknown;
+
+    fn try_from(byte: u8) -> Result<Operation, Unknown> {
         match byte {
-            1 => Some(Operation::ReadRecord),
-            2 => Some(Operation::WriteRecord),
-            3 => Some(Operation::Build),
-            4 => Some(Operation::Rescore),
-            5 => Some(Operation::Fit),
-            6 => Some(Operation::Tree),
-            7 => Some(Operation::Text),
-            8 => Some(Operation::Line),
-            9 => Some(Operation::Whole),
-            10 => Some(Operation::Sheet),
-            _ => None,
+            1 => Ok(Operation::ReadRecord),
+            2 => Ok(Operation::WriteRecord),
+            3 => Ok(Operation::Build),
+            4 => Ok(Operation::Rescore),
+            5 => Ok(Operation::Fit),
+            6 => Ok(Operation::Tree),
+            7 => Ok(Operation::Text),
+            8 => Ok(Operation::Line),
+            9 => Ok(Operation::Whole),
+            10 => Ok(Operation::Sheet),
+            _ => Err(Unknown),
         }
     }
 }
 
 // Answers a case that starts with the byte; `None` where it isn't whole or the byte names no operation.
 fn answer_case(rt: &HostRuntime, byte: u8) -> Option<()> {
-    match Operation::named_by(byte)? {
+    match Operation::try_from(byte).ok()? {
         Operation::ReadRecord => answer_read(rt),
         Operation::WriteRecord => answer_write(rt),
         Operation::Build => answer_build(rt),

@@ -15,15 +15,15 @@ ghost use Rattle.texts.specs.Text.{holding, with_bytes};
 ghost use Rattle.report.specs.Words.{signed, count_word, place_word, refused_words, refused_line, tree_line};
 
 use answers::{Refusal, number_of};
+use itoa::Buffer;
 use texts::{Text, add, add_decimal, empty};
 
 // A weight at the end of a text.
-#[tactic(auto, using(texts::proofs::Laws::with_joined, crate::proofs::Laws::Words::signed_neg, crate::proofs::Laws::Words::signed_pos))]
+#[tactic(auto, using(crate::proofs::Laws::Words::signed_printed))]
 fn add_weight(text: Text, weight: i64) -> Text
     ensures { result ≡ with_bytes text (signed weight) }
 {
-    let signed = if weight < 0 { add(text, b"-") } else { text };
-    add_decimal(signed, weight.unsigned_abs())
+    add(text, Buffer::new().format(weight).as_bytes())
 }
 
 // A count at the end of a text, or `many` where its mark is 1.

@@ -14,3 +14,5 @@ pub mod Workable
 -- the loop over the rows, one turn and the whole
 pub mod AgainRow
 pub mod AgainLoop
+-- its mark
+pub mod WorkedMark

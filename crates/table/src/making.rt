@@ -15,6 +15,7 @@ use kept::{DEGREE_HIGH, DEGREE_LOW, Table, zero_table};
 use lists::{Listing, read_list};
 
 // What a build gives: the table is all zero where the answer is a refusal.
+// The answer stands beside it, and is no `Result` over it: the rules have a refused build hand back the zero table (`build_table`).
 #[derive(Clone, Copy)]
 pub struct Built {
     pub answer: Answer,

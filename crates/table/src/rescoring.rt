@@ -14,6 +14,7 @@ use cluster::is_score;
 use kept::{Table, is_fit, place_of};
 
 // What a rescoring gives: the table is as it was given where the answer is a refusal.
+// The answer stands beside it, and is no `Result` over it: the rules have a refused rescoring hand back the table (`rescore_table`).
 #[derive(Clone, Copy)]
 pub struct Rescored {
     pub answer: Answer,

@@ -25,7 +25,7 @@ pub(crate) struct Tally {
     pub high: u64,
 }
 
-// A count and its mark.
+// A count and its mark, as a row of a table has them in two columns by the rules: an `Option` would be made of them and taken apart again.
 #[derive(Clone, Copy)]
 pub(crate) struct Count {
     pub count: u64,
@@ -84,8 +84,8 @@ impl Tally {
         Count::exact(self.count * other.count)
     }
 
-    // Whether the set of `self`, read as one number, is the larger: the tie rule. Two comparisons, since a build that compares pairs of
-    // words, `(self.high, self.low)`, takes up to an eighth longer.
+    // Whether the set of `self`, read as one number, is the larger: the tie rule. Two comparisons: with pairs of words,
+    // `(self.high, self.low)`, builds of the hardest list take 1.41 to 1.51 times the C++ program's time, at the bar of 1.5; so, 1.16 to 1.35.
     fn is_larger(self, other: Tally) -> bool
         ensures { result ≡ is_larger self other }
     {

@@ -8,6 +8,7 @@ ghost use Rattle.laws.specs.Cluster.{highest, lowest};
 const LAST_TAXON: u32 = 63;
 
 // The largest taxon, 0 where there is none. Taxon 0 is put in, which changes the answer of no cluster and spares a branch.
+#[tactic(auto, using(crate::proofs::Leading::leading_le, crate::proofs::Leading::highest_is))]
 pub fn highest(c: u64) -> u32
     ensures { result ≡ highest c }
 {

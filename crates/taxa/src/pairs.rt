@@ -6,6 +6,7 @@ ghost use Rattle.std.specs.Prelude.{◌≡◌};
 ghost use Rattle.laws.specs.Cluster.{inside, strict, apart};
 
 // Whether every taxon of `a` is one of `b`'s: so a cluster is inside itself, and no taxa are inside anything.
+#[tactic(auto, unfolding(laws::specs::Cluster::inside))]
 pub fn is_inside(a: u64, b: u64) -> bool
     ensures { result ≡ inside a b }
 {
@@ -20,6 +21,7 @@ pub fn is_strict(a: u64, b: u64) -> bool
 }
 
 // Whether no taxon is in both.
+#[tactic(auto, unfolding(laws::specs::Cluster::apart))]
 pub fn is_apart(a: u64, b: u64) -> bool
     ensures { result ≡ apart a b }
 {

@@ -4,7 +4,7 @@
 --     with_joined              which reads a call on what another gave as one
 --     with_then                so it is of what two calls gave, one after the other
 --     with_copied              bytes copied to the place where the text ends, as many as there is room for
---     with_low, with_high      a number below ten is one figure; another is a tenth of it and then the last figure
+--     decimal_printed          what the library prints of a number are its figures
 --     with_held, text_held     a text of bytes, with more added, is that of the first of them all that there is room for; from no bytes on,
 --                              it is that of what was added
 --     begun_fits               such a text has no more bytes than there is room for
@@ -12,7 +12,7 @@
 -- Assumes nothing.
 use mathlib.Core.Path.{◌≡◌, refl, sym, ap, ap₂, ◌∙◌}
 use mathlib.Core.List.{List, [], ◌∷◌, ◌++◌, append_assoc, append-nil}
-use Prim.Native.Nat.{ℕ, zero, suc, ◌+◌, ◌-◌, ◌/◌, ◌%◌, ◌≤◌, ◌<◌, min}
+use Prim.Native.Nat.{ℕ, zero, suc, ◌+◌, ◌-◌, ◌%◌, ◌^◌, ◌≤◌, ◌<◌, min}
 use native.Mathlib.Decide.{dec_le}
 use native.Mathlib.Nat.{add-zero, sub-zero}
 use native.Mathlib.Omega.{arith}
@@ -21,6 +21,8 @@ use lib.ListN.{length, length-append, length-take, replicate, length-replicate, 
 use lib.ListN.{take, drop, drop_of_length-le}
 use lib.Seq.{drop-drop, take_all, take_at, drop_at, take-nil, take-length, length-take-le}
 use lib.Seq.{paste-zero, take-append_seam, drop-append-add}
+use Rattle.std.specs.Fmt.{decimal as printed}
+use Rattle.std.proofs.lemmas.Fmt.{decimal_by_steps}
 use Rattle.std.proofs.lemmas.List.{take_min}
 use Rattle.std.proofs.lemmas.Slice.{put_mid-paste}
 use Rattle.shapes.specs.Decimal.{figure, decimal}
@@ -119,14 +121,12 @@ module _ (t : Text) (l : List ℕ) {start n : ℕ} where
       ∙ ap (λ (x : List ℕ). take start t.bytes ++ x ++ drop (start + length (take n l)) t.bytes) (take-length (take n l)))
       ∙ with_fitting s m long
 
--- ---- a number
+-- ---- a number, as it is printed
 
-module _ (t : Text) (n : ℕ) where
-  pub with_low : n < 10 → with_bytes t (figure n ∷ []) ≡ with_bytes t (decimal n)
-  with_low h = rw (decimal-one n h) refl
-
-  pub with_high : 10 ≤ n → with_bytes (with_bytes t (decimal (n / 10))) (figure (n % 10) ∷ []) ≡ with_bytes t (decimal n)
-  with_high h = rw (decimal_high n h) (sym (with_append t (decimal (n / 10)) (figure (n % 10) ∷ [])))
+pub decimal_printed : (n : ℕ) → n < 2 ^ 64 → printed n ≡ decimal n
+decimal_printed =
+    decimal_by_steps (λ n l. l ≡ decimal n) (λ n h. sym (decimal-one n h))
+    (λ n l h e. ap (λ (tenth : List ℕ). tenth ++ (figure (n % 10) ∷ [])) e ∙ sym (decimal_high n h))
 
 -- ---- a text with zeros behind its bytes
 

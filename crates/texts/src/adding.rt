@@ -6,6 +6,7 @@ ghost use Rattle.shapes.specs.Decimal.{decimal};
 ghost use Rattle.texts.specs.Text.{with_bytes};
 
 use crate::text::{TEXT_CAP, Text};
+use itoa::Buffer;
 
 // Bytes at the end of a text, as many as it has room for.
 #[tactic(auto, using(crate::proofs::Laws::with_copied))]
@@ -22,14 +23,10 @@ pub fn add(text: Text, bytes: &[u8]) -> Text
     longer
 }
 
-// The figures of `n` at the end of a text: those of a tenth of it first, then the last.
-#[tactic(auto, using(crate::proofs::Laws::with_low, crate::proofs::Laws::with_high))]
+// The figures of `n` at the end of a text.
+#[tactic(auto, using(crate::proofs::Laws::decimal_printed))]
 pub fn add_decimal(text: Text, n: u64) -> Text
     ensures { result ≡ with_bytes text (decimal n) }
 {
-    if n < 10 {
-        return add(text, &[b'0' + n as u8]);
-    }
-    let tenth = add_decimal(text, n / 10);
-    add(tenth, &[b'0' + (n % 10) as u8])
+    add(text, Buffer::new().format(n).as_bytes())
 }

@@ -1,4 +1,4 @@
-// Bytes put into a room. Cites `specs/Outcome.antt` of the crate `cluster`.
+// Bytes put into a room. Cites `specs/Outcome.antt` of the crate `answers`.
 //     put     bytes at the start of a room
 ghost use Rattle.std.specs.Prelude.{◌≡◌, []};
 ghost use Rattle.answers.specs.Outcome.{outcome_of, written};

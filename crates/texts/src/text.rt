@@ -9,7 +9,8 @@ ghost use Rattle.texts.specs.Text.{holding};
 pub(crate) const TEXT_CAP: usize = 172;
 
 // The first `size` bytes are the text; the others are zero.
-// A fixed room and no growing string: a string allocates, which can fail, and no byte that is added is refused.
+// A room and how much of it is used, and no vector: `add` and `add_decimal` promise what they add to every value of the struct, whatever its
+// size (rows of `OneOutcome`), and a vector has fewer values.
 #[derive(Clone, Copy)]
 pub struct Text {
     pub bytes: [u8; TEXT_CAP],

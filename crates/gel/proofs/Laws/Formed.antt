@@ -26,7 +26,8 @@ use Rattle.laws.proofs.Keep.{every→}
 use Rattle.laws.proofs.Places.{every→at}
 use Rattle.laws.proofs.First.{first-all}
 use Rattle.laws.proofs.Tests.{T_and, true_T}
-use Rattle.gel.specs.Lines.{line_end, is_mark, line_max, width_max, Line, no_line, line_count, line_at, width_of, is_fault, first_fault, is_bad_sheet}
+use Rattle.gel.specs.Lines.{line_end, is_mark, line_max, width_max, Line, no_line, line_count, line_at, width_of}
+use Rattle.gel.specs.Lines.{is_fault, first_fault, is_bad_sheet}
 use Rattle.gel.specs.Columns.{mark_at}
 use Rattle.gel.specs.Form.{is_line, Formed, FaultAt}
 use Rattle.gel.proofs.Laws.Faults.{fault→right, right→fault, right-line, fault_first}

@@ -9,15 +9,16 @@
 use mathlib.Core.Path.{◌≡◌, sym, ap, ap₂, ◌∙◌}
 use mathlib.Core.Logic.{◌≢◌}
 use mathlib.Core.Bool.{Bool, true, false, not, ◌&&◌, and-false}
+use mathlib.Core.List.{◌++◌}
 use mathlib.Core.Option.{Option, none, some}
-use Prim.Native.Nat.{ℕ, ◌≤◌, ◌<◌}
+use Prim.Native.Nat.{ℕ, ◌-◌, ◌≤◌, ◌<◌}
 use native.Mathlib.Nat.{min-eq_left}
 use borrow.Author.Tests.{eq-eqb, ne_eqb, lt-ltb, le-ltb}
 use lib.Dec.{T, eqb, ltb, ltb→lt, T_not, not_T}
 use lib.IntN.{ℤ}
-use lib.ListN.{length, take}
+use lib.ListN.{length, replicate}
 use lib.Signed.{lt_z}
-use Rattle.laws.specs.Limits.{Width}
+use Rattle.laws.specs.Limits.{Width, row_cap}
 use Rattle.laws.proofs.Integers.{lt_z_irrefl, tri, Tri}
 use Rattle.laws.proofs.Tests.{T_and, and_T, T_true, T_false, neq→}
 use Rattle.trees.specs.Tree.{is_tree}
@@ -31,9 +32,9 @@ use Rattle.kept.specs.View.{result_at}
 use Rattle.kept.specs.Fit.{is_fit}
 use Rattle.members.specs.declared.marks.Members.{Members}
 use Rattle.members.specs.Marked.{marked_to, members_to, members_in, scored_to, weight_to, is_same}
-use Rattle.members.specs.Draw.{leaf_row, has_tree, is_drawable, draw_reasons, DrawnMembers, no_members, drawn_members, drawn_tree}
+use Rattle.members.specs.Draw.{leaf_row, has_tree, is_drawable, draw_reasons, DrawnMembers, no_members, drawn_members, drawn_tree, padded}
 use Rattle.members.specs.Gathered.{Gathered, Found}
-use Rattle.members.proofs.Laws.Gathered.{gathered-front}
+use Rattle.members.proofs.Laws.Gathered.{gathered-size}
 
 -- ---- whether there is a tree
 pub has_tree→ : (t : Table) → T (has_tree t) → (leaf_row t < t.rows) × ((result_at t (leaf_row t)).count ≢ 0)
@@ -119,26 +120,27 @@ module _ {W : Width} {t : Table} {c i : ℕ} (f : Found W t c i) where
   found_unscored h = undrawn (rw h)
 
   module _ {r : Members} (g : Gathered t marks t.rows r) where
-    tests_are : drawable_at i t.rows c ≡ (is_same r.weight (result_at t i).best && is_tree W.taxa t.degree c (take r.size r.clusters))
+    tests_are : drawable_at i t.rows c ≡ (is_same r.weight (result_at t i).best && is_tree W.taxa t.degree c r.clusters.items)
     tests_are = λ j.
         g.scored j
         && is_same (sym g.weight j) (result_at t i).best
-        && is_tree W.taxa t.degree c (sym (gathered-front g) j)
+        && is_tree W.taxa t.degree c (sym g.clusters j)
 
     pub found_other : r.weight ≢ (result_at t i).best → refused ≡ drawn_tree W t
     found_other h = undrawn (tests_are ∙ rw (T_false (is_same r.weight (result_at t i).best) (λ k. h (is_same→ _ _ k))))
 
     module _ (b : r.weight ≡ (result_at t i).best) where
-      tree_is : is_drawable W t ≡ is_tree W.taxa t.degree c (take r.size r.clusters)
+      tree_is : is_drawable W t ≡ is_tree W.taxa t.degree c r.clusters.items
       tree_is =
           drawable_at_lem ∙ tests_are ∙ rw (b, T_true (is_same (result_at t i).best (result_at t i).best) (is_same_refl (result_at t i).best))
 
-      pub found_no_tree : is_tree W.taxa t.degree c (take r.size r.clusters) ≡ false → refused ≡ drawn_tree W t
+      pub found_no_tree : is_tree W.taxa t.degree c r.clusters.items ≡ false → refused ≡ drawn_tree W t
       found_no_tree h = sym (drawn-marks W t f.fit f.tree (tree_is ∙ h))
 
-      pub found_tree : is_tree W.taxa t.degree c (take r.size r.clusters) ≡ true
-          → outcome_of (Ok 0) (record { row = i; clusters = r.clusters; size = r.size }) ≡ drawn_tree W t
+      pub found_tree : is_tree W.taxa t.degree c r.clusters.items ≡ true
+          → outcome_of (Ok 0) (record { row = i; clusters = padded r.clusters.items; size = length r.clusters.items }) ≡ drawn_tree W t
       found_tree h =
-          (λ j. outcome_of (Ok 0) (record { row = i; clusters = g.clusters j; size = g.size j }))
+          let size = gathered-size g in
+          (λ j. outcome_of (Ok 0) (record { row = i; clusters = g.clusters j ++ replicate (row_cap - size j) 0; size = size j }))
           ∙ (λ j. outcome_of (Ok 0) (members_at (f.row j) (sym (min-eq_left f.capped) j)))
           ∙ sym (drawn-whole W t f.fit f.tree (tree_is ∙ h))

@@ -1,29 +1,29 @@
--- The marked rows gathered, one by one: their clusters in an array, and their weights added up, each being scored.
+-- The marked rows gathered, one by one: their clusters in a list, and their weights added up, each being scored.
 --     gathered_none, gathered_skips, gathered_takes     no row; one row more, marked or not
 --     added, added_fits     the sum with the weight of one row more, as the code has it, fits 64 bits
 --     members-length, members-front, members-fit     the clusters of rows in an array: they are its first, and it is long enough
---     gathered-front, gathered-fits, gathered-count     so for the marked rows
+--     gathered-size         as many clusters as marked rows
 -- Assumes nothing.
 use mathlib.Core.Path.{◌≡◌, refl, sym, ap, ap₂, ◌∙◌}
 use mathlib.Core.Bool.{true, false}
-use mathlib.Core.List.{List, map, reverse}
+use mathlib.Core.List.{List, [], ◌∷◌, ◌++◌, map, reverse, reverse-cons}
 use Prim.Native.Nat.{ℕ, ◌+◌, ◌-◌, ◌*◌, ◌≤◌, ◌<◌}
 use native.Mathlib.Omega.{arith}
 use lib.IntN.{ℤ, pos, nat_abs, ◌+ℤ◌}
-use lib.ListN.{length, get_or, set, take, replicate, length-append, length-map, length-reverse}
+use lib.ListN.{length, get_or, take, replicate, length-append, length-map, length-reverse}
 use lib.Seq.{take_at}
 use lib.Signed.{mag, nat_abs-le}
 use mir.Facts.{to_z-of_z}
 use mir.Syntax.{w32, w64}
 use mir.Val.{SFits, to_z, of_z}
+use Rattle.arrayvec.specs.ArrayVec.{ArrayVec}
 use Rattle.laws.specs.Limits.{row_cap}
 use Rattle.laws.specs.State.{scored}
-use Rattle.laws.proofs.Column.{column-more}
 use Rattle.laws.proofs.Integers.{abs_sum-le}
 use Rattle.kept.specs.declared.table.Table.{Table}
 use Rattle.kept.specs.Marks.{has_mark}
 use Rattle.members.specs.declared.marks.Members.{Members}
-use Rattle.members.specs.Marked.{marked_to, members_to, members_in, weight_to}
+use Rattle.members.specs.Marked.{marked_to, members_in, weight_to}
 use Rattle.members.specs.Gathered.{weight_span, Gathered}
 use Rattle.members.proofs.Laws.Marked.{marked_takes, marked_skips, scored_skips, scored_takes}
 use Rattle.members.proofs.Laws.Weighed.{near_fits, cast_back, weight_skips, weight_takes}
@@ -44,31 +44,25 @@ module _ (cs rows : List ℕ) where
 
 -- ---- the marked rows
 pub gathered_none : {t : Table} {m : ℕ}
-    → Gathered t m 0 (record { clusters = replicate row_cap 0; size = 0; weight = pos 0 })
-gathered_none = record { size = refl; few = omega arith; clusters = refl; weight = refl; near = omega arith; scored = refl }
+    → Gathered t m 0 (record { clusters = record { items = [] }; weight = pos 0 })
+gathered_none = record { few = omega arith; clusters = refl; weight = refl; near = omega arith; scored = refl }
 
 module _ {t : Table} {m n : ℕ} {r : Members} (g : Gathered t m n r) where
-  abbrev rows : List ℕ
-  rows = marked_to m n
-
   abbrev at : ℕ → ℕ
   at i = get_or t.clusters i 0
 
-  pub gathered-front : take r.size r.clusters ≡ members_to t.clusters m n
-  gathered-front = ap₂ take g.size g.clusters ∙ members-front t.clusters rows
+  -- the clusters of rows, ascending
+  abbrev upward : List ℕ → List ℕ
+  upward l = reverse (map at l)
 
-  pub gathered-fits : r.size ≤ length r.clusters
-  gathered-fits = omega (arith, g.size, ap length g.clusters, members-fit t.clusters rows)
-
-  pub gathered-count : r.size ≡ length (take r.size r.clusters)
-  gathered-count = g.size ∙ sym (ap length gathered-front ∙ members-length t.clusters rows)
+  pub gathered-size : length r.clusters.items ≡ length (marked_to m n)
+  gathered-size = ap length g.clusters ∙ members-length t.clusters (marked_to m n)
 
   -- one row more
   pub gathered_skips : has_mark m n ≡ false → Gathered t m (n + 1) r
   gathered_skips e = record {
-    size = g.size ∙ sym (ap length (marked_skips m n e));
     few = omega (arith, g.few);
-    clusters = g.clusters ∙ sym (ap (members_in t.clusters) (marked_skips m n e));
+    clusters = g.clusters ∙ sym (ap upward (marked_skips m n e));
     weight = g.weight ∙ sym (weight_skips t.weights m n e);
     near = rw (weight_skips t.weights m n e) (omega (arith, g.near));
     scored = scored_skips t.states m n e ∙ g.scored;
@@ -92,17 +86,13 @@ module _ {t : Table} {m n : ℕ} {r : Members} (g : Gathered t m n r) where
     pub added_fits : SFits w64 added
     added_fits = rw added_is (near_fits (weight_to t.weights m (n + 1)) (n + 1) (omega arith) near-more)
 
-    pub gathered_takes : scored (get_or t.states n 0) ≡ true → Gathered t m (n + 1) (record {
-      clusters = set r.clusters r.size (get_or t.clusters n 0);
-      size = r.size + 1;
-      weight = to_z w64 (of_z w64 added);
-    })
-    gathered_takes s = record {
-      size = rw (marked_takes m n e) (omega (arith, g.size));
-      few = omega (arith, g.few);
+    pub gathered_takes : scored (get_or t.states n 0) ≡ true → {v : ArrayVec ℕ} → v.items ≡ r.clusters.items ++ get_or t.clusters n 0 ∷ []
+        → Gathered t m (n + 1) (record { clusters = v; weight = to_z w64 (of_z w64 added) })
+    gathered_takes s q = record {
+      few = omega (arith, g.few, ap length q, length-append r.clusters.items (at n ∷ []));
       clusters =
-          ap₂ (λ (l : List ℕ) (i : ℕ). set l i (at n)) g.clusters g.size
-          ∙ sym (ap (members_in t.clusters) (marked_takes m n e) ∙ column-more 0 at n rows (omega (arith, g.size, g.few)));
+          q ∙ ap (λ (l : List ℕ). l ++ at n ∷ []) g.clusters
+          ∙ sym (ap upward (marked_takes m n e) ∙ reverse-cons (at n) (map at (marked_to m n)));
       weight = to_z-of_z added_fits ∙ added_is;
       near = near-more;
       scored = scored_takes t.states m n e s ∙ g.scored;

@@ -1,6 +1,6 @@
 -- The words of a line by their cases, and how long a line can be.
 --     begun                              bytes added to a text that is another are added to that
---     signed_neg, signed_pos             a weight, by its sign
+--     signed_printed                     what the library prints of a weight
 --     count_word-many, count_word-one      a count, by its mark
 --     place_word_bad, place_word_repeated, place_word_sheet, place_word-none     a place, by the refusal's number
 --     best_max                            no tree weighs more, either way
@@ -11,13 +11,18 @@
 use mathlib.Core.Path.{◌≡◌, ap, ◌∙◌}
 use mathlib.Core.Bool.{Bool, true, false, cond}
 use mathlib.Core.List.{List, [], ◌++◌}
-use Prim.Native.Nat.{ℕ, ◌+◌, ◌-◌, ◌*◌, ◌^◌, ◌≤◌, ◌<◌}
+use Prim.Native.Nat.{ℕ, suc, ◌+◌, ◌-◌, ◌*◌, ◌^◌, ◌≤◌, ◌<◌}
 use native.Mathlib.Omega.{arith}
 use borrow.Author.Tests.{eq-eqb, ne_eqb}
-use lib.Dec.{eqb}
-use lib.IntN.{ℤ, pos, nat_abs}
+use lib.Dec.{eqb, ltb, ltb→lt}
+use lib.IntN.{ℤ, pos, negsuc, nat_abs}
 use lib.ListN.{length, length-append}
 use lib.Signed.{lt_z}
+use mir.Syntax.{w64}
+use mir.Val.{SFits}
+use Rattle.std.specs.Fmt.{signed_decimal as printed}
+use Rattle.texts.proofs.Laws.{decimal_printed}
+use Rattle.laws.proofs.Tests.{T_false}
 use Rattle.laws.specs.Limits.{narrow, weight_max}
 use Rattle.std.specs.Prelude.{Err}
 use Rattle.answers.specs.declared.refusal.Refusal.{Refusal}
@@ -37,11 +42,9 @@ begun l p q = q ∙ ap (λ (x : Text). with_bytes x l) p
 
 -- ---- the cases
 
-pub signed_neg : (z : ℤ) → lt_z z (pos 0) ≡ true → signed z ≡ characters "-" ++ decimal (nat_abs z)
-signed_neg z e = rw e
-
-pub signed_pos : (z : ℤ) → lt_z z (pos 0) ≡ false → signed z ≡ decimal (nat_abs z)
-signed_pos z e = rw e
+pub signed_printed : (z : ℤ) → SFits w64 z → printed z ≡ signed z
+signed_printed (pos n) h = rw (T_false (ltb n 0) (λ t. omega (arith, ltb→lt n 0 t))) (decimal_printed n (omega (arith, h)))
+signed_printed (negsuc n) h = ap (λ (l : List ℕ). characters "-" ++ l) (decimal_printed (suc n) (omega (arith, h)))
 
 pub count_word-many : (c m : ℕ) → m ≡ 1 → count_word c m ≡ characters "many"
 count_word-many c m e = rw (eq-eqb m 1 e)

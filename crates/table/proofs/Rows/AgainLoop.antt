@@ -1,13 +1,10 @@
 -- The row loop of `again` (`src/working.rt`): how it begins, goes on and ends, with every row worked out again. What holds after each
 -- row is `Partly` of `AgainRow.antt`.
 --     partly_start, partly_skip, partly_store, partly_end
---     mark-fits                the mark that is stored is a byte
 -- Assumes nothing.
 use mathlib.Core.Path.{◌≡◌, refl, sym, ap, ap₂, ◌∙◌, subst}
 use mathlib.Core.Bool.{Bool, true, false}
-use mathlib.Core.Logic.{⊎_elim}
-use mathlib.Core.List.Memᴰ.{head as here}
-use mathlib.Core.List.{List, ◌∷◌, Memᴰ as Mem}
+use mathlib.Core.List.{List, ◌∷◌}
 use Prim.Native.Nat.{ℕ, suc, ◌+◌, ◌*◌, ◌/◌, ◌%◌, ◌≤◌, ◌<◌}
 use native.Mathlib.Decide.{ℕ_discrete}
 use native.Mathlib.Numerals.{add-one}
@@ -15,8 +12,6 @@ use native.Mathlib.Omega.{arith}
 use lib.Dec.{T}
 use lib.IntN.{pos}
 use lib.ListN.{get_or}
-use mir.Syntax.{w8}
-use mir.Val.{Fits}
 use lib.Seq.{get_or-set_same, get_or-set_other}
 use Rattle.laws.specs.Cluster.{inside}
 use Rattle.laws.specs.Limits.{Width, row_cap, word_values}
@@ -36,8 +31,6 @@ use Rattle.table.specs.Tally.{fields_tally}
 use Rattle.table.specs.Working.{worked_tally, again_table, Workable}
 use Rattle.table.specs.Columns.{columns_of}
 use Rattle.table.proofs.Rows.AgainRow.{Partly, same_row, row-again}
-use Rattle.table.proofs.Rows.Workable.{again-fit-below}
-use Rattle.table.proofs.Tallies.Decoded.{good_of_fit}
 use Rattle.table.proofs.Rows.Stored.{result_in, stored, stored_same, stored_other, stored_entries, stored_sized}
 
 -- the fields of a row, as a tally and back
@@ -141,14 +134,6 @@ module _ {W : Width} (facts : WidthFacts W) {given : Table} {c : ℕ} (w : Worka
         left = λ j l. stored_other t i j r (λ q. omega arith) ∙ p.left j (omega arith);
         words = λ j l. stored_words j l (ℕ_discrete j i);
       }
-
-      -- the row is fit, so its mark is 0 or 1
-      pub mark-fits : Fits w8 r.mark
-      mark-fits =
-          let e : Entry Result = record { row = row_at given i; val = F (row_at given i) (again F c (entries_of given i)) } in
-          let fit = again-fit-below facts w (suc i) (omega arith) e (subst (Mem e) stored_done (here (sym stored_row))) in
-          let mark = ap (λ (x : Tally). x.mark) row_is in
-          record { fits = ⊎_elim (λ q. omega (arith, mark, q)) (λ q. omega (arith, mark, q.0)) (good_of_fit W cs e fit).marked }
 
     -- ---- all rows passed
 

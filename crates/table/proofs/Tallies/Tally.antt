@@ -1,7 +1,7 @@
--- The code's operations on tallies, exit by exit.
+-- The operations on tallies, case by case.
 --     capped_sum-…, capped_product-…      the count of a sum, and of a product
 --     product_le                       a product that the division doesn't find past the limit
---     is_larger-…, is_before_…, keeps_first-…     the tie rule, the order, and whose best a sum has
+--     is_larger-…, is_before_by, keeps_first-…     the tie rule, the order, and whose best a sum has
 --     plus_tally-first, plus_tally_second        a sum with the best of the first, or of the second
 --     under_tally_dead, under_tally-live         one more child: no trees, or the fields joined
 -- Assumes nothing.

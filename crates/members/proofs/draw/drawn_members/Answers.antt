@@ -14,9 +14,10 @@ returns-then-members-t c =
       | then-members-t-via-then-members-t w ↦ found_other c.requires c.in-Some.ensures (λ e. w.if-members-t.true (ap (of_z w64) e))
       | then-members-t-via-else-members-t+then-not-is_tree w ↦
           found_no_tree c.requires c.in-Some.ensures (same_bits w64 (search rules) (search rules) w.if-members-t.false)
-          (sym w.if-not-is_tree.ensures)
+          (rw w.deref.ensures.0 at (sym w.if-not-is_tree.ensures))
     ]
 
 pub returns : goal.returns
 returns c =
-    found_tree c.requires c.in-Some.ensures (same_bits w64 (search rules) (search rules) c.if-members-t.false) (sym c.if-not-is_tree.ensures)
+    found_tree c.requires c.in-Some.ensures (same_bits w64 (search rules) (search rules) c.if-members-t.false)
+    (rw c.deref.ensures.0 at (sym c.if-not-is_tree.ensures))

@@ -16,6 +16,6 @@ loop-i-preserved c =
     elim c.if-is_marked.branch [
       | then-is_marked+else-not-is_scored w ↦
           rw (w.members-is, w.from.ensures)
-          (gathered_takes g (omega arith) (sym w.if-is_marked.ensures) (omega arith) (sym w.if-not-is_scored.ensures))
+          (gathered_takes g (omega arith) (sym w.if-is_marked.ensures) (omega arith) (sym w.if-not-is_scored.ensures) w.push.ensures.items)
       | else-is_marked w ↦ rw w.members-is (gathered_skips g (sym w.if-is_marked.ensures))
     ]

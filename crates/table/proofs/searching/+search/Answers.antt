@@ -1,6 +1,7 @@
 -- `table::searching::search` meets its contract: at each turn of the loop the row that leads what is left adds what the covers with it sum
 -- to, and other rows add nothing. Assumes nothing.
 use Rattle.std.proofs.Common.{◌≡◌, true, ◌&&◌, List, ℕ, ◌-◌, ◌<◌, get_or, refl, sym, ap, ◌∙◌, subst, ◌+◌, arith}
+use Rattle.kept.proofs.Laws.Marks.{highest-lt}
 use Rattle.laws.specs.Cluster.{inside}
 use Rattle.laws.specs.State.{scored}
 use Rattle.laws.proofs.Cluster.{le_of_inside}
@@ -11,7 +12,7 @@ use Rattle.table.specs.Columns.{Columns, columns_of, parts_of, sum_covers}
 use Rattle.table.specs.Searched.{Searchable}
 use Rattle.table.specs.Tally.{tally_of}
 use Rattle.table.proofs.Tuples.Searchable.{taxon-fits, start_past}
-use Rattle.table.proofs.Tuples.SearchRow.{Led, Adds, whole_adds, next_place, inner_asks, under_asks, part_adds}
+use Rattle.table.proofs.Tuples.SearchRow.{Led, Adds, whole_adds, inner_asks, under_asks, part_adds}
 use Rattle.table.proofs.Tuples.Running.{Running, running_all, running_ended, running_skipped, running_added, plus_asks}
 use Rattle.table.proofs.searching.+search.Goals as goal
 use Rattle.table.proofs.searching.+search.Goals.{After-from-next, Joined-other-eq0, then-other-eq0, else-other-eq0, then-left-eq2, else-left-eq2}
@@ -57,14 +58,18 @@ loop-i-init t c =
 pub overflow_sub-other : goal.overflow_sub-other
 overflow_sub-other t c = le_of_inside _ _ (T_and _ _ (true_T (sym c.if-is_part.ensures))).0
 
+-- whatever row was taken: what is left is a number of 64 bits
 pub bounds-starts-top : goal.bounds-starts-top
 bounds-starts-top t c =
-    next_place c.args.left (led_of c.loop-i.invariant c.loop-i-test.true c.if-is_part.ensures) c.if-other-eq0.false c.highest-top.ensures
+    let other : ℕ = c.args.rest - get_or c.args.t.now.clusters (c.loop-i.i - 1) 0 in
+    let low = highest-lt 64 other (omega (arith, c.if-other-eq0.false)) (omega (arith, c.requires.searchable.small)) in
+    omega (arith, low, c.highest-top.ensures)
 
 pub bounds-starts-top-then-left-eq2 : goal.bounds-starts-top-then-left-eq2
 bounds-starts-top-then-left-eq2 t c =
-    let q = led_of c.loop-i.invariant c.loop-i-test.true c.if-is_part.ensures in
-    omega (arith, next_place c.args.left q c.if-other-eq0.false c.highest-top.ensures)
+    let other : ℕ = c.args.rest - get_or c.args.t.now.clusters (c.loop-i.i - 1) 0 in
+    let low = highest-lt 64 other (omega (arith, c.if-other-eq0.false)) (omega (arith, c.requires.searchable.small)) in
+    omega (arith, low, c.highest-top.ensures)
 
 -- what the search of the rest may count on
 inner : (t : ℕ) (c : goal.After-from-next t)

@@ -1,12 +1,17 @@
 -- `table::working::again` meets its contract: a row that contains the cluster is stored as it is worked out, and the others stay. Assumes
 -- nothing.
-use Rattle.std.proofs.Common.{arith, rules, sym}
+use Rattle.std.proofs.Common.{arith, rules, sym, ap, get_or}
 use Rattle.std.specs.Int.{w64}
 use mir.Facts.{to_z-of_z}
 use mir.Val.{SFits}
 use Rattle.laws.proofs.Width.{narrow_facts}
+use lib.IntN.{pos}
+use Rattle.laws.specs.Limits.{narrow}
+use Rattle.table.specs.declared.tally.Tally.{Tally}
+use Rattle.table.specs.Columns.{columns_of}
+use Rattle.table.proofs.Rows.WorkedMark.{worked-mark-le}
 use Rattle.table.proofs.Rows.AgainRow.{ready_row}
-use Rattle.table.proofs.Rows.AgainLoop.{partly_skip, partly_store, partly_end, mark-fits}
+use Rattle.table.proofs.Rows.AgainLoop.{partly_skip, partly_store, partly_end}
 use Rattle.table.proofs.working.again.Goals as goal
 use Rattle.table.proofs.working.again.Goals.{then-is_inside, else-is_inside}
 
@@ -15,8 +20,8 @@ worked-row-requires c = ready_row narrow_facts c.requires c.loop-i.invariant _ (
 
 pub overflow_cast-t : goal.overflow_cast-t
 overflow_cast-t c =
-    mark-fits narrow_facts c.requires c.loop-i.invariant c.starts_of-starts.ensures (omega arith) (sym c.if-is_inside.ensures)
-    c.worked-row.ensures
+    let row = worked-mark-le narrow (columns_of c.loop-i.t) (get_or c.loop-i.t.weights c.loop-i.i (pos 0)) c.loop-i.i c.loop-i.t.degree in
+    omega (arith, row, ap (λ (r : Tally). r.mark) c.worked-row.ensures)
 
 pub loop-i-preserved : goal.loop-i-preserved
 loop-i-preserved c =

@@ -6,8 +6,11 @@ use Rattle.gel.specs.Form.{is_line, Formed}
 use Rattle.gel.proofs.Laws.Faults.{fault_unmarked}
 use Rattle.gel.proofs.Laws.Formed.{FirstWidth, LinedTo, piece_is, rest_more, lined_more, lined_full, lined_stopped, lined_ended}
 use Rattle.gel.proofs.lines.Sheet.read.Goals as goal
-use Rattle.gel.proofs.lines.Sheet.read.Goals.{In-Some, then-width-eq0-via-then-width-eq0, then-width-eq0-via-else-width-eq0+then-width-gt-MOST_COLUMNS}
-use Rattle.gel.proofs.lines.Sheet.read.Goals.{then-i-eq-MOST_LINES-via-then-i-eq-MOST_LINES, then-i-eq-MOST_LINES-via-else-i-eq-MOST_LINES+then-not-is_line}
+use Rattle.gel.proofs.lines.Sheet.read.Goals.{In-Some}
+use Rattle.gel.proofs.lines.Sheet.read.Goals.{then-width-eq0-via-then-width-eq0}
+use Rattle.gel.proofs.lines.Sheet.read.Goals.{then-width-eq0-via-else-width-eq0+then-width-gt-MOST_COLUMNS}
+use Rattle.gel.proofs.lines.Sheet.read.Goals.{then-i-eq-MOST_LINES-via-then-i-eq-MOST_LINES}
+use Rattle.gel.proofs.lines.Sheet.read.Goals.{then-i-eq-MOST_LINES-via-else-i-eq-MOST_LINES+then-not-is_line}
 
 pub returns-then-width-eq0 : goal.returns-then-width-eq0
 returns-then-width-eq0 c = fault_unmarked c.args.bytes.now (λ h k. elim c.then-width-eq0.branch [
@@ -30,7 +33,9 @@ left c =
     ap (λ (n : ℕ). drop (n * (c.first_width-width.result + 1)) c.args.bytes.now) told.1 ∙ sym c.loop-i.invariant.rest
 
 more : (c : In-Some) → c.in-Some.i * (c.first_width-width.result + 1) < length c.args.bytes.now
-more c = let told = c.in-Some.ensures.steps in omega (arith, told.0.1.2, ap length (left c), length-drop (c.in-Some.i * (c.first_width-width.result + 1)) c.args.bytes.now)
+more c =
+    let told = c.in-Some.ensures.steps in
+    omega (arith, told.0.1.2, ap length (left c), length-drop (c.in-Some.i * (c.first_width-width.result + 1)) c.args.bytes.now)
 
 -- the line is the front of what is left
 piece : (c : In-Some)
