@@ -2,23 +2,17 @@
 --     largest_found     the largest member, or 0 where there is none, is `largest`
 --     child_found       of the parts of C with taxon t, it is the child
 -- Assumes nothing.
-use Rattle.std.proofs.Common.{◌≡◌, Bool, true, false, cond, ◌&&◌, List, [], ◌∷◌, Option, None, Some, MatchOption, ℕ, ◌*◌, ◌%◌, ◌^◌, ◌≤◌, ◌<◌, length, refl, ap, ◌∙◌, lit<, arith}
+use Rattle.std.proofs.Common.{◌≡◌, ◌&&◌, List, [], ◌∷◌, Option, None, Some, MatchOption, ℕ, ◌*◌, ◌%◌, ◌^◌, ◌≤◌, ◌<◌, length, refl, sym, ap, ◌∙◌, lit<, arith}
 use Rattle.std.specs.List.{filter, All, Contains}
 use Rattle.std.specs.Option.{unwrap_or}
 use Rattle.std.proofs.lemmas.List.Recursion.{max_bounds, max_least}
 use native.Mathlib.Nat.{one-mul}
 use lib.Pow.{shl_exact}
 use Rattle.laws.specs.Cluster.{inside, strict}
-use Rattle.laws.specs.Lists.{keep_if, keep}
+use Rattle.laws.specs.Lists.{keep}
+use Rattle.laws.proofs.Chains.{keep_is}
 use Rattle.trees.specs.Heaviest.{largest}
 use Rattle.shapes.specs.Parts.{child_with}
-
-filter_is_keep : (p : ℕ → Bool) (l : List ℕ) → filter p l ≡ keep p l
-filter_is_keep p [] = refl
-filter_is_keep p (x ∷ l) = elim (p x) as (λ b. cond b (x ∷ filter p l) (filter p l) ≡ keep_if b x (keep p l)) [
-  | true ↦ ap (λ (m : List ℕ). x ∷ m) (filter_is_keep p l)
-  | false ↦ filter_is_keep p l
-]
 
 largest_found : (r : Option ℕ) (l : List ℕ) → MatchOption r (length l ≡ 0) (λ m. Contains l m × All (λ x. x ≤ m) l) → unwrap_or r 0 ≡ largest l
 largest_found None [] h = refl
@@ -37,5 +31,5 @@ child_found xs C t r h found =
     let bit : (1 * 2 ^ t) % 2 ^ 64 ≡ 2 ^ t = shl_exact {a = 1} 1 t 64 (lit< tt) (omega arith) ∙ one-mul (2 ^ t) in
     let has = λ (b k : ℕ). strict k C && inside b k in
     largest_found r (filter (has ((1 * 2 ^ t) % 2 ^ 64)) xs) found
-    ∙ ap largest (filter_is_keep (has ((1 * 2 ^ t) % 2 ^ 64)) xs)
+    ∙ ap largest (sym (keep_is (has ((1 * 2 ^ t) % 2 ^ 64)) xs))
     ∙ ap (λ (b : ℕ). largest (keep (has b) xs)) bit

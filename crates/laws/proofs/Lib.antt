@@ -52,3 +52,5 @@ pub mod Column
 pub mod Width
 -- one outcome where a promise is an equation to a value
 pub mod Only
+-- what a chain of iterators answers, in the words for lists
+pub mod Chains

@@ -1,8 +1,6 @@
 -- Laws of the definitions of `specs/`, and of `is_tree`.
 -- loops over a list, over any test
 pub mod Scan
--- what a chain of iterators answers, in the words of `laws`
-pub mod Chains
 -- the test of a tree, part by part
 pub mod TreeTest
 -- the marked rows, one by one

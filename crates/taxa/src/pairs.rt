@@ -14,6 +14,7 @@ pub fn is_inside(a: u64, b: u64) -> bool
 }
 
 // Whether `a` lies inside `b` and is another cluster.
+#[tactic(auto, unfolding(laws::specs::Cluster::strict, laws::specs::Cluster::inside))]
 pub fn is_strict(a: u64, b: u64) -> bool
     ensures { result ≡ strict a b }
 {

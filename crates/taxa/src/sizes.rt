@@ -12,7 +12,6 @@ pub fn size(c: u64) -> u32
 }
 
 // Whether the cluster has exactly one taxon.
-#[tactic(auto, unfolding(laws::specs::Cluster::single))]
 pub fn is_single(c: u64) -> bool
     ensures { result ≡ single c }
 {

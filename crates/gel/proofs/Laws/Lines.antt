@@ -1,13 +1,12 @@
 -- The lines of a sheet: `specs/Lines.antt` and the first part of `specs/Form.antt`.
 --     lines-some        bytes are a line at least
---     fold-every        all bytes tested, whatever is found
 --     line_parts        the test of a line, part by part
 --     LineFrom s at w   a line of w marks starts at a place, and the lines of what follows it are the further ones
 --     line_found        where the bytes from a place on pass the test
 --     line-ended        where the first line from a place on has marks alone and LF, so many marks stand there, and its bytes pass the test
 -- Assumes nothing.
 use mathlib.Core.Path.{◌≡◌, refl, sym, ap, ap₂, ◌∙◌, subst}
-use mathlib.Core.Bool.{Bool, true, false, cond, true≢false, ◌&&◌, and-true}
+use mathlib.Core.Bool.{Bool, true, false, cond, true≢false, ◌&&◌}
 use mathlib.Core.List.{List, [], ◌∷◌, ◌++◌}
 use Prim.Native.Nat.{ℕ, ◌+◌, ◌≤◌}
 use borrow.Author.Tests.{eqb-true, eq-eqb, ne_eqb}
@@ -17,7 +16,7 @@ use native.Mathlib.Omega.{arith}
 use lib.Dec.{T, eqb, eqb→eq}
 use lib.ListN.{length, get_or, take, drop, length-append, length-drop, length-take}
 use lib.Seq.{split_at, take_at, take-append-add, get_or-append_seam, get_or-take, drop-drop}
-use Rattle.std.specs.List.{fold, prefix_len}
+use Rattle.std.specs.List.{prefix_len}
 use Rattle.std.proofs.lemmas.Grind.{common_steps}
 use Rattle.laws.specs.Lists.{every}
 use Rattle.laws.proofs.Tests.{T_and, T_true, true_T}
@@ -65,14 +64,6 @@ line-apart (b ∷ r) h = go (eqb b line_end) refl (lines_of r) (line-apart r) h
     go false e (x ∷ ls) ih k = let q = ih k in (q.0, ap (λ (l : List ℕ). b ∷ l) q.1)
 
 -- ---- tests of bytes
-
-and_assoc : (a b c : Bool) → (a && b && c) ≡ (a && (b && c))
-and_assoc true b c = refl
-and_assoc false b c = refl
-
-pub fold-every : (p : ℕ → Bool) (a : Bool) (x : List ℕ) → fold (λ whole b. whole && p b) a x ≡ (a && every p x)
-fold-every p a [] = sym (and-true a)
-fold-every p a (b ∷ x) = fold-every p (a && p b) x ∙ and_assoc a (p b) (every p x)
 
 -- marks end at LF
 marks-end : (m rest : List ℕ) → T (every is_mark m) → prefix_len is_mark (m ++ line_end ∷ rest) ≡ length m

@@ -25,7 +25,7 @@ use Rattle.laws.specs.Limits.{narrow, word_values}
 use Rattle.laws.specs.Lists.{every, elem}
 use Rattle.laws.proofs.Keep.{every-and}
 use Rattle.trees.specs.Tree.{children, is_tree}
-use Rattle.members.proofs.Laws.Chains.{elem_is}
+use Rattle.laws.proofs.Chains.{elem_is}
 
 -- ---- the tests in turn: where those before pass and one fails, the whole fails; where three pass, the last decides
 abbrev pub are_nested : ℕ → List ℕ → Bool

@@ -3,7 +3,7 @@ use Rattle.std.proofs.Common.{Bool, true, ◌&&◌, ℕ, ◌∙◌, rules}
 use Rattle.std.proofs.lemmas.Iterator.{YieldsList-from_slice}
 use Rattle.std.proofs.lemmas.Iterator.Consumers.{fold_from_yields_List}
 use Rattle.gel.specs.Lines.{is_mark}
-use Rattle.gel.proofs.Laws.Lines.{fold-every}
+use Rattle.laws.proofs.Chains.{fold-every}
 use Rattle.gel.proofs.lines.are_marks.Goals as goal
 
 pub returns : goal.returns

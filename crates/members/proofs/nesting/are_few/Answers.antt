@@ -2,7 +2,7 @@
 use Rattle.std.proofs.Common.{◌||◌, ◌-◌, leb, length, rules}
 use Rattle.laws.specs.Cluster.{single}
 use Rattle.trees.specs.Tree.{children}
-use Rattle.members.proofs.Laws.Chains.{every_of}
+use Rattle.laws.proofs.Chains.{every_of}
 use Rattle.members.proofs.nesting.are_few.Goals as goal
 
 pub returns : goal.returns

@@ -2,7 +2,7 @@
 use Rattle.std.proofs.Common.{◌&&◌, rules}
 use Rattle.laws.specs.Cluster.{inside, nested}
 use Rattle.laws.specs.Lists.{every}
-use Rattle.members.proofs.Laws.Chains.{every_of}
+use Rattle.laws.proofs.Chains.{every_of}
 use Rattle.members.proofs.nesting.are_nested.Goals as goal
 
 pub returns : goal.returns

@@ -2,7 +2,7 @@
 use Rattle.std.proofs.Common.{rules, tests}
 use Rattle.std.proofs.lemmas.Iterator.{YieldsList-from_slice}
 use Rattle.std.proofs.lemmas.Iterator.Consumers.{count_from_yields_List, YieldsList-from_filter}
-use Rattle.members.proofs.Laws.Chains.{keep_is}
+use Rattle.laws.proofs.Chains.{keep_is}
 use Rattle.members.proofs.nesting.child_count.Goals as goal
 
 pub returns : goal.returns

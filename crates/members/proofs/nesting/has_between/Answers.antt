@@ -1,7 +1,7 @@
 -- `members::nesting::has_between` meets its contract: the chain answers for each place. Assumes nothing.
 use Rattle.std.proofs.Common.{◌&&◌, rules}
 use Rattle.laws.specs.Cluster.{strict}
-use Rattle.members.proofs.Laws.Chains.{any_of}
+use Rattle.laws.proofs.Chains.{any_of}
 use Rattle.members.proofs.nesting.has_between.Goals as goal
 
 pub returns : goal.returns

@@ -1,16 +1,17 @@
--- What a chain of iterators answers, in the words of `laws` for lists.
+-- What a chain of iterators answers, in this crate's words for lists.
 --     every_of, any_of     `all` answers whether all pass a test, and `any` whether one does
 --     elem_is              `contains` answers whether a number is in the list
 --     keep_is              `filter` gives what `keep` does
+--     fold-every           a `fold` that tests all, whatever is found
 -- Assumes nothing.
-use mathlib.Core.Path.{◌≡◌, refl, ap₂}
-use mathlib.Core.Bool.{Bool, true, false, cond, ◌||◌}
+use mathlib.Core.Path.{◌≡◌, refl, sym, ap₂, ◌∙◌}
+use mathlib.Core.Bool.{Bool, true, false, cond, ◌&&◌, ◌||◌, and-true}
 use mathlib.Core.List.{List, [], ◌∷◌}
 use Prim.Native.Nat.{ℕ, ◌<◌}
 use native.Mathlib.Omega.{arith}
 use lib.Dec.{eqb}
 use lib.ListN.{length, get_or}
-use Rattle.std.specs.List.{filter, list_any}
+use Rattle.std.specs.List.{filter, fold, list_any}
 use Rattle.std.proofs.lemmas.List.Recursion.{and_is, or_is, same_from_clauses}
 use Rattle.std.proofs.lemmas.Bool.Decides.{nat_tests}
 use Rattle.laws.specs.Lists.{keep_if, keep, every, any, elem}
@@ -37,3 +38,11 @@ keep_is p = same_from_clauses (keep p) (filter p) (λ x xs. cond (p x) (x ∷ xs
     kept : {A : Type 0} (b : Bool) (x : A) (xs : List A) → keep_if b x xs ≡ cond b (x ∷ xs) xs
     kept true x xs = refl
     kept false x xs = refl
+
+and_assoc : (a b c : Bool) → (a && b && c) ≡ (a && (b && c))
+and_assoc true b c = refl
+and_assoc false b c = refl
+
+pub fold-every : (p : ℕ → Bool) (a : Bool) (x : List ℕ) → fold (λ whole b. whole && p b) a x ≡ (a && every p x)
+fold-every p a [] = sym (and-true a)
+fold-every p a (b ∷ x) = fold-every p (a && p b) x ∙ and_assoc a (p b) (every p x)
