@@ -14,6 +14,7 @@ ghost use Rattle.digests.specs.Told.{told_of};
 
 use gel::import_sheet;
 use kept::ROW_CAP;
+use signed::unsigned_long_of;
 use table::{Table, build, rescore};
 
 // The results of one row added up, past 64 bits from the start again.
@@ -23,7 +24,7 @@ fn row_digest(t: &Table, row: usize) -> u64
 {
     let counts = t.lengths[row].wrapping_add(t.counts[row]);
     let members = t.members_low[row].wrapping_add(t.members_high[row]);
-    let rest = u64::from(t.marks[row]).wrapping_add(t.bests[row].cast_unsigned());
+    let rest = u64::from(t.marks[row]).wrapping_add(unsigned_long_of(t.bests[row]));
     counts.wrapping_add(members).wrapping_add(rest)
 }
 

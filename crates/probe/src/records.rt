@@ -2,7 +2,9 @@
 // nothing.
 //     answer_read      operation 1, read one record
 //     answer_write     operation 2, write one record
-use crate::stream::{LIST_CAP, ROOM_CAP, read_array, read_part, write, write_room, write_sent};
+use crate::stream::{
+    LIST_CAP, ROOM_CAP, next, read_array, read_part, write, write_room, write_sent,
+};
 use cluster::{Record, read_record, write_record};
 
 pub(crate) fn answer_read(rt: &HostRuntime) -> Option<()> {
@@ -16,10 +18,15 @@ pub(crate) fn answer_read(rt: &HostRuntime) -> Option<()> {
     Some(())
 }
 
+// How many bytes the fields of a record have. They are read at once, as those of a table are.
+const FIELDS_BYTES: usize = 9;
+
 fn read_fields(rt: &HostRuntime) -> Option<Record> {
-    let cluster = u32::from_le_bytes(read_array(rt)?);
-    let weight = i32::from_le_bytes(read_array(rt)?);
-    let state = u8::from_le_bytes(read_array(rt)?);
+    let bytes = read_array::<FIELDS_BYTES>(rt)?;
+    let mut rest = &bytes[..];
+    let cluster = u32::from_le_bytes(next(&mut rest)?);
+    let weight = i32::from_le_bytes(next(&mut rest)?);
+    let state = u8::from_le_bytes(next(&mut rest)?);
     Some(Record {
         cluster,
         weight,

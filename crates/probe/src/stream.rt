@@ -3,6 +3,7 @@
 //     LIST_CAP, ROOM_CAP     the most bytes that a list can have, and a room of bytes
 //     fill                   a room filled from the input
 //     read_array             as many bytes as an array has
+//     next                   as many of bytes that came as an array has
 //     read_part              a count, then as many pieces of a size
 //     write                  bytes, written
 //     write_sent             how an operation ended, written as SENT
@@ -29,6 +30,13 @@ pub(crate) fn read_array<const N: usize>(rt: &HostRuntime) -> Option<[u8; N]> {
     let mut bytes = [0u8; N];
     fill(rt, &mut bytes)?;
     Some(bytes)
+}
+
+// The first of bytes that came, as many as the array has; the others stay.
+pub(crate) fn next<const N: usize>(bytes: &mut &[u8]) -> Option<[u8; N]> {
+    let (first, rest) = bytes.split_first_chunk()?;
+    *bytes = rest;
+    Some(*first)
 }
 
 // A count of two bytes, then as many pieces of `size` bytes each, put at the start of `room`: they are handed back. More of them than it has
