@@ -67,6 +67,7 @@ one_outcome = record {
   read_list = list_only narrow;
   check_list = check_only narrow;
   import_sheet = λ s room. import_only _;
+  unread_of = λ r. value-only;
   zero_table = value-only;
   is_fit = λ t. value-only;
   place_of = λ t c. value-only;

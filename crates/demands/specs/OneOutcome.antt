@@ -29,7 +29,7 @@ use Rattle.lists.specs.declared.listing.Listing.{Listing}
 use Rattle.lists.specs.Listing.{listing_of, read_list}
 use Rattle.lists.specs.Listing as listing
 use Rattle.gel.specs.declared.importing.Import.{Import}
-use Rattle.gel.specs.Import.{Imported, import_of, import_sheet}
+use Rattle.gel.specs.Import.{Imported, import_of, import_sheet, unread_of}
 use Rattle.gel.specs.Import as gel
 use Rattle.kept.specs.declared.table.Table.{Table}
 use Rattle.kept.specs.View.{zero_table}
@@ -93,6 +93,7 @@ pub record OneOutcome : Type 0 where
   pub check_list : (list : List ℕ) → Only (λ (a : Answer). sent_of a ≡ (listing.read_list narrow list).sent)
   -- gel
   pub import_sheet : (sheet room : List ℕ) → Only (Imports (import_sheet sheet room))
+  pub unread_of : (import : Result Import Refusal) → Only (λ (n : ℕ). n ≡ unread_of import)
   -- kept
   pub zero_table : Only (λ (t : Table). t ≡ zero_table)
   pub is_fit : (t : Table) → Only (λ (b : Bool). b ≡ is_fit narrow t)

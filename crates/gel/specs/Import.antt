@@ -2,6 +2,7 @@
 --     Imported            how many columns have a ?, and the room afterwards
 --     not_imported room, imported s room     what a refusal leaves, and what a success gives
 --     import_of r room     the code's import or refusal as an outcome: on a refusal no column is counted
+--     unread_of r          how many columns have a ?, as that outcome has it
 --     sheet_reasons s      why a sheet is refused, the room left aside: 12, then 13
 --     import_reasons s room     then 11
 --     import_sheet s room  what importing the sheet s into a room gives: a refusal, or else the list stands first, and the number of its
@@ -28,6 +29,9 @@ not_imported room = record { unread = 0; room = room }
 abbrev pub import_of : Result Import Refusal → List ℕ → Outcome Imported
 import_of r room =
     result_of (λ (i : Import). i.records) (λ (i : Import). record { unread = i.unread; room = room }) (not_imported room) r
+
+abbrev pub unread_of : Result Import Refusal → ℕ
+unread_of r = (import_of r []).given.unread
 
 -- what a success gives: the list stands first in the room
 abbrev pub imported : List ℕ → List ℕ → Imported

@@ -3,12 +3,13 @@
 //     record_of      the record of a key
 //     put_rows       the records of keys, written into a room
 //     import_sheet   a sheet to the list of its clusters
+//     unread_of      how many columns have a ?, whether or not the sheet is refused
 ghost use Rattle.std.specs.Prelude.{◌≡◌, ◌*◌, ◌≤◌, length};
 ghost use Rattle.laws.specs.Limits.{narrow};
 ghost use Rattle.answers.specs.Outcome.{put_into};
 ghost use Rattle.cluster.specs.Record.{record_bytes, row_in};
 ghost use Rattle.lists.specs.Accepted.{bytes_of_rows};
-ghost use Rattle.gel.specs.Import.{import_of, import_sheet};
+ghost use Rattle.gel.specs.Import.{import_of, import_sheet, unread_of};
 ghost use Rattle.gel.specs.Tally.{Key, Keys, row_of_key, rows_of_keys};
 
 use crate::lines::Sheet;
@@ -70,4 +71,11 @@ pub fn import_sheet(sheet: &[u8], room: &mut [u8]) -> Result<Import, Refusal>
         records,
         unread: tally.unread,
     })
+}
+
+// How many columns have a ?, as what came of a sheet tells it: 0 where the sheet is refused.
+pub fn unread_of(import: Result<Import, Refusal>) -> usize
+    ensures { result ≡ unread_of import }
+{
+    import.map_or(0, |import| import.unread)
 }

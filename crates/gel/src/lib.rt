@@ -2,6 +2,7 @@
 // `requires`, and its `ensures` is one equation to a definition of `specs/`.
 //     Import           what importing a sheet gives: how many records, and how many columns have a ?
 //     import_sheet     a sheet to the list of its clusters
+//     unread_of        how many columns have a ?, also of a refused sheet
 #![tactic(auto)]
 
 mod columns;
@@ -9,4 +10,4 @@ mod importing;
 mod lines;
 mod tally;
 
-pub use importing::{Import, import_sheet};
+pub use importing::{Import, import_sheet, unread_of};

@@ -6,7 +6,7 @@
 
 use answers::Refusal;
 use cluster::RECORD_BYTES;
-use gel::{Import, import_sheet};
+use gel::{Import, import_sheet, unread_of};
 use input::read_input;
 use report::sheet_line;
 use std::io;
@@ -26,8 +26,7 @@ fn tell(to: &impl Print, text: &[u8]) {
 
 // Says what came of a sheet.
 fn tell_import(to: &impl Print, import: Result<Import, Refusal>) {
-    let unread = import.map_or(0, |import| import.unread);
-    let Text { bytes, size } = sheet_line(import.map(|import| import.records), unread);
+    let Text { bytes, size } = sheet_line(import.map(|import| import.records), unread_of(import));
     tell(to, &bytes[..size]);
 }
 

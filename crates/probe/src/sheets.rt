@@ -1,7 +1,7 @@
 // The operation on gel sheets. It reads its case and writes the answer; where the case isn't whole it gives `None`, and has written nothing.
 //     answer_sheet     operation 10, import a gel sheet
 use crate::stream::{read_part, write, write_sent};
-use gel::import_sheet;
+use gel::{import_sheet, unread_of};
 
 // The most bytes that a sheet can have.
 const SHEET_CAP: usize = 8192;
@@ -16,8 +16,7 @@ pub(crate) fn answer_sheet(rt: &HostRuntime) -> Option<()> {
     let room = read_part(rt, &mut room_bytes, 1)?;
     let import = import_sheet(sheet, room);
     write_sent(rt, import.map(|import| import.records));
-    let unread = import.map_or(0, |import| import.unread);
-    write(rt, &(unread as u64).to_le_bytes());
+    write(rt, &(unread_of(import) as u64).to_le_bytes());
     write(rt, room);
     Some(())
 }
