@@ -1,5 +1,6 @@
 -- A list copied over the front of another, number by number.
 --     copied_more     one number more
+--     mem_at          what stands at a place is a member
 --     narrow_at       each of some clusters of 32 bits is a number of 32 bits
 -- Assumes nothing.
 use mathlib.Core.Path.{◌≡◌, refl, ap, ◌∙◌}
@@ -25,7 +26,7 @@ copied_more d s room i e h fits =
     rw (e, add-one i, ← front d s i, ← front d s (suc i))
     (ap (λ (j : ℕ). set (paste d 0 s i) j (get_or s i 0)) (omega arith) ∙ paste-suc d 0 s i 0 (omega arith) h)
 
-mem_at : (l : List ℕ) (i : ℕ) → i < length l → Mem (get_or l i 0) l
+pub mem_at : (l : List ℕ) (i : ℕ) → i < length l → Mem (get_or l i 0) l
 mem_at [] i h = absurd (omega arith)
 mem_at (x ∷ xs) zero h = here refl
 mem_at (x ∷ xs) (suc i) h = there (mem_at xs i (omega arith))

@@ -1,5 +1,6 @@
 -- The words of a line by their cases, and how long a line can be.
 --     begun                              bytes added to a text that is another are added to that
+--     signed_neg, signed_pos             a weight, by its sign
 --     signed_printed                     what the library prints of a weight
 --     count_word-many, count_word-one      a count, by its mark
 --     place_word_bad, place_word_repeated, place_word_sheet, place_word-none     a place, by the refusal's number
@@ -41,6 +42,12 @@ pub begun : (l : List ℕ) {t r s : Text} → r ≡ t → s ≡ with_bytes r l �
 begun l p q = q ∙ ap (λ (x : Text). with_bytes x l) p
 
 -- ---- the cases
+
+pub signed_neg : (z : ℤ) → lt_z z (pos 0) ≡ true → signed z ≡ characters "-" ++ decimal (nat_abs z)
+signed_neg z e = rw e
+
+pub signed_pos : (z : ℤ) → lt_z z (pos 0) ≡ false → signed z ≡ decimal (nat_abs z)
+signed_pos z e = rw e
 
 pub signed_printed : (z : ℤ) → SFits w64 z → printed z ≡ signed z
 signed_printed (pos n) h = rw (T_false (ltb n 0) (λ t. omega (arith, ltb→lt n 0 t))) (decimal_printed n (omega (arith, h)))

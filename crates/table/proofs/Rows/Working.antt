@@ -1,5 +1,7 @@
--- The mark of a row in two words, as the code has it.
---     low_mark_is, high_mark_is     the words of 2 ^ i
+-- The mark of a row in two words, as the code has it, and a row by itself.
+--     low_mark-none, high_mark-none     a word without the mark
+--     low_mark_is, high_mark_is         the words of 2 ^ i
+--     own_is                            a row by itself, field by field
 -- Assumes nothing.
 use mathlib.Core.Path.{◌≡◌, sym, ap, ◌∙◌}
 use mathlib.Core.Bool.{Bool, cond}
@@ -7,18 +9,20 @@ use Prim.Native.Nat.{ℕ, ◌+◌, ◌-◌, ◌*◌, ◌/◌, ◌%◌, ◌^◌, 
 use native.Mathlib.Decide.{dec_lt}
 use native.Mathlib.Nat.{mod-eq_of_lt, div-eq_of_lt}
 use native.Mathlib.Omega.{arith}
+use lib.IntN.{ℤ}
 use lib.Pow.{pow-lt, pow-add, high, low}
 use borrow.Author.Tests.{lt-ltb, le-ltb}
 use Rattle.laws.specs.Limits.{word_values}
-use Rattle.table.specs.Tally.{low_mark, high_mark}
+use Rattle.table.specs.declared.tally.Tally.{Tally}
+use Rattle.table.specs.Tally.{low_mark, high_mark, own_tally}
 
 -- ---- a word without the mark
 
 module _ (i : ℕ) where
-  low_mark-none : 64 ≤ i → 0 ≡ low_mark i
+  pub low_mark-none : 64 ≤ i → 0 ≡ low_mark i
   low_mark-none h = ap (λ (b : Bool). cond b (2 ^ i) 0) (sym (le-ltb i 64 h))
 
-  high_mark-none : i < 64 → 0 ≡ high_mark i
+  pub high_mark-none : i < 64 → 0 ≡ high_mark i
   high_mark-none h = ap (λ (b : Bool). cond b 0 (2 ^ (i - 64))) (sym (lt-ltb i 64 h))
 
 -- ---- the words of 2 ^ i
@@ -47,3 +51,9 @@ high_mark_is i = go (dec_lt i 64)
         let h : 64 ≤ i = omega arith in
         ap (λ (b : Bool). cond b 0 (2 ^ (i - 64))) (le-ltb i 64 h)
         ∙ sym (ap (λ (n : ℕ). n / word_values) (pow_split i h) ∙ high (2 ^ (i - 64)) 64 {lo = 0} (omega arith))
+
+-- ---- a row by itself
+
+pub own_is : (n i l h : ℕ) (w z : ℤ) → z ≡ w → l ≡ low_mark i → h ≡ high_mark i
+    → ◌≡◌ {A = Tally} (record { tuples = n; count = 1; mark = 0; best = z; low = l; high = h }) (own_tally n w i)
+own_is n i l h w z p q r = λ k. record { tuples = n; count = 1; mark = 0; best = p k; low = q k; high = r k }
