@@ -30,15 +30,16 @@ fn put_clusters(clusters: &[u64], room: &mut [u32])
 
 // The clusters of the tree that the leaf set's row marks, ascending, at the start of a room counted in numbers; the answer tells how many.
 // Of a built table it is the first heaviest. Refused 8 (fitness), 7, 8 (marks), 11 in that order, and the room is then left as it was.
+#[tactic(auto, using(crate::proofs::Laws::Draw::drawn_fits))]
 pub fn tree(t: Table, room: &mut [u32]) -> Answer
     ensures { outcome_of result room.new ≡ draw_tree narrow t room.old }
 {
     let drawn = drawn_tree(t)?;
-    let size = drawn.clusters.len();
+    let size = drawn.size;
     if room.len() < size {
         return Err(Refusal::NoRoom);
     }
-    put_clusters(&drawn.clusters, room);
+    put_clusters(&drawn.clusters[..size], room);
     Ok(size)
 }
 
@@ -50,12 +51,12 @@ pub struct DrawnText {
 }
 
 // The Newick text of the same tree. Refused 8 (fitness), 7, 8 (marks) in that order.
-#[tactic(auto, using(crate::proofs::Laws::Draw::drawn_row))]
+#[tactic(auto, using(crate::proofs::Laws::Draw::drawn_fits, crate::proofs::Laws::Draw::drawn_row))]
 pub fn drawn_text(t: Table) -> Result<DrawnText, Refusal>
     ensures { drawn_text_of result ≡ drawn_text narrow t }
 {
     let drawn = drawn_tree(t)?;
-    let text = text_of(&drawn.clusters, t.clusters[drawn.row]);
+    let text = text_of(&drawn.clusters[..drawn.size], t.clusters[drawn.row]);
     Ok(DrawnText {
         row: drawn.row,
         text,

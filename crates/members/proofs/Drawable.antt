@@ -1,18 +1,15 @@
 -- What is known where something is drawn of a table, for the crates that draw it: `specs/Drawable.antt`.
---     drawn-only          one outcome of `drawn_tree`: a refusal, or the row and its members
+--     drawn-only          one outcome of `drawn_tree`: a refusal, or the row, every number of the array, and how many
 --     drawn-refused       what `drawn_tree` refuses is the first reason that applies
 --     drawable            where no reason applies, what `Drawable` says of the table
 --     drawn_done          where `drawn_tree` succeeds, what `Success` says of its value
 -- Assumes nothing.
 use mathlib.Core.Path.{◌≡◌, refl, sym, ap, ap₂, ◌∙◌}
 use mathlib.Core.Bool.{◌&&◌}
-use mathlib.Core.List.{List}
 use mathlib.Core.Option.{none, some}
-use Prim.Native.Nat.{ℕ, ◌-◌}
 use native.Mathlib.Nat.{le_trans}
-use lib.ListN.{length, take, replicate}
-use lib.Seq.{take_at}
-use Rattle.laws.specs.Limits.{Width, row_cap}
+use lib.ListN.{take}
+use Rattle.laws.specs.Limits.{Width}
 use Rattle.laws.specs.Widths.{WidthFacts}
 use Rattle.laws.proofs.Tests.{T_and, T_true, T-of-not}
 use Rattle.std.specs.Prelude.{Result, Ok, Err}
@@ -28,9 +25,9 @@ use Rattle.kept.proofs.Laws.Fit.{is_fit→}
 use Rattle.kept.proofs.Laws.Rows.{place_of_at}
 use Rattle.members.specs.declared.draw.Drawn.{Drawn}
 use Rattle.members.specs.Draw.{has_tree, marked_rows, are_scored, weighs_best, is_drawable, draw_reasons}
-use Rattle.members.specs.Draw.{DrawnMembers, no_members, drawn_members, drawn_tree, drawn_of, padded}
+use Rattle.members.specs.Draw.{DrawnMembers, no_members, drawn_members, drawn_tree, drawn_of}
 use Rattle.members.specs.Drawable.{Drawable, Success}
-use Rattle.members.proofs.Laws.Gathered.{members-front}
+use Rattle.members.proofs.Laws.Gathered.{members-length, members-front, members-fit}
 use Rattle.members.proofs.Laws.Draw.{has_tree→, is_same→}
 use Rattle.members.proofs.Laws.Members.{members_falling, members-once, members-sound, members-listed}
 
@@ -67,14 +64,7 @@ module _ (W : Width) (t : Table) where
   drawn_is = refl
 
   abbrev given : Drawn → DrawnMembers
-  given r = record { row = r.row; clusters = padded r.clusters.items; size = length r.clusters.items }
-
-  -- the members are the front of the array
-  front : (r : Drawn) → take (length r.clusters.items) (padded r.clusters.items) ≡ r.clusters.items
-  front r = take_at r.clusters.items (replicate (row_cap - length r.clusters.items) 0) (length r.clusters.items) refl
-
-  same_members : (x y : Drawn) → given x ≡ given y → x.clusters.items ≡ y.clusters.items
-  same_members x y e = sym (front x) ∙ ap (λ (m : DrawnMembers). take m.size m.clusters) e ∙ front y
+  given r = record { row = r.row; clusters = r.clusters; size = r.size }
 
   answered : {r s : Result Drawn Refusal} → drawn_of r ≡ drawn_tree W t → r ≡ s → ends ≡ drawn_of s
   answered p e = sym drawn_is ∙ sym p ∙ ap drawn_of e
@@ -82,8 +72,7 @@ module _ (W : Width) (t : Table) where
   pub drawn-only : (x y : Result Drawn Refusal) → drawn_of x ≡ drawn_tree W t → drawn_of y ≡ drawn_tree W t → x ≡ y
   drawn-only =
       result_only (λ (r : Drawn). 0) given no_members
-      (λ x y _ e. ap₂ (λ (n : ℕ) (l : List ℕ). record { row = n; clusters = record { items = l } }) (ap (λ (m : DrawnMembers). m.row) e)
-      (same_members x y e))
+      (λ x y _ e. ap (λ (m : DrawnMembers). record { row = m.row; clusters = m.clusters; size = m.size }) e)
 
   pub drawn-refused : {r : Result Drawn Refusal} {f : Refusal} → drawn_of r ≡ drawn_tree W t → r ≡ Err f
       → first_reason (draw_reasons W t) ≡ some f
@@ -92,9 +81,13 @@ module _ (W : Width) (t : Table) where
 
   pub drawn_done : WidthFacts W → {r : Result Drawn Refusal} {d : Drawn} → drawn_of r ≡ drawn_tree W t → r ≡ Ok d → Success W t d
   drawn_done facts {r} {d} p h =
-      let q = ended_done (first_reason (draw_reasons W t)) no_members 0 (drawn_members t) 0 (given d) (answered p h) in record {
+      let q = ended_done (first_reason (draw_reasons W t)) no_members 0 (drawn_members t) 0 (given d) (answered p h) in
+      let size = ap (λ (m : DrawnMembers). m.size) q.1 in
+      let clusters = ap (λ (m : DrawnMembers). m.clusters) q.1 in record {
         unrefused = q.0;
         table = drawable W facts t q.0;
         row = ap (λ (m : DrawnMembers). m.row) q.1;
-        members = sym (front d) ∙ ap (λ (m : DrawnMembers). take m.size m.clusters) q.1 ∙ members-front t.clusters (marked_rows t);
+        size = size ∙ sym (members-length t.clusters (marked_rows t));
+        front = ap₂ take size clusters ∙ members-front t.clusters (marked_rows t);
+        fits = rw (size, clusters) (members-fit t.clusters (marked_rows t));
       }

@@ -11,12 +11,11 @@
 --     DrawnMembers         the leaf set's row, its members ascending in an array, zero past them, and how many they are
 --     no_members, drawn_members t     nothing drawn, all zero; the members of the leaf set's row
 --     drawn_tree W t        what is drawn; a success tells nothing
---     padded l              a list in an array: zero past it
 --     drawn_of r            the code's value or refusal as an outcome: on a refusal all is zero
 -- Assumes nothing.
-use Rattle.std.specs.Prelude.{Bool, not, ◌&&◌, List, [], ◌∷◌, ◌++◌, ℕ, ◌-◌, eqb, ltb, length, replicate}
+use Rattle.std.specs.Prelude.{Bool, not, ◌&&◌, List, [], ◌∷◌, ℕ, eqb, ltb, length}
 use Rattle.std.specs.Prelude as prelude
-use Rattle.laws.specs.Limits.{Width, row_cap}
+use Rattle.laws.specs.Limits.{Width}
 use Rattle.trees.specs.Tree.{is_tree}
 use Rattle.trees.specs.Result.{Result}
 use Rattle.answers.specs.declared.refusal.Refusal.{Refusal}
@@ -74,10 +73,6 @@ drawn_members t = record { row = leaf_row t; clusters = members_in t.clusters (m
 unfoldable pub drawn_tree : Width → Table → Outcome DrawnMembers
 drawn_tree W t = ended (first_reason (draw_reasons W t)) no_members 0 (drawn_members t)
 
-abbrev pub padded : List ℕ → List ℕ
-padded l = l ++ replicate (row_cap - length l) 0
-
 abbrev pub drawn_of : prelude.Result Drawn Refusal → Outcome DrawnMembers
 drawn_of =
-    result_of (λ (r : Drawn). 0)
-    (λ (r : Drawn). record { row = r.row; clusters = padded r.clusters.items; size = length r.clusters.items }) no_members
+    result_of (λ (r : Drawn). 0) (λ (r : Drawn). record { row = r.row; clusters = r.clusters; size = r.size }) no_members

@@ -2,7 +2,7 @@
 --     Drawable W t      the table is fit, its leaf set has a row, and the members of that are a tree of its best weight
 --     Success W t r     a success of `drawn_tree`: no reason applies, and r has the row and its members
 -- Assumes nothing.
-use Rattle.std.specs.Prelude.{◌≡◌, ◌≢◌, true, reverse, ℕ, ◌^◌, ◌<◌, T}
+use Rattle.std.specs.Prelude.{◌≡◌, ◌≢◌, true, reverse, ℕ, ◌^◌, ◌≤◌, ◌<◌, T, length, take}
 use Rattle.std.proofs.Math.Option.{none}
 use mathlib.Core.List.{Memᴰ as Mem}
 use Rattle.laws.specs.Limits.{Width}
@@ -36,4 +36,7 @@ pub record Success (W : Width) (t : Table) (r : Drawn) : Type 0 where
   pub unrefused : first_reason (draw_reasons W t) ≡ none
   pub table : Drawable W t
   pub row : r.row ≡ leaf_row t
-  pub members : r.clusters.items ≡ members_of t
+  -- the members are the first of the array
+  pub size : r.size ≡ length (members_of t)
+  pub front : take r.size r.clusters ≡ members_of t
+  pub fits : r.size ≤ length r.clusters

@@ -11,14 +11,15 @@ ghost use Rattle.members.specs.Gathered.{Found};
 use crate::marks::members_of;
 use crate::nesting::is_tree;
 use answers::Refusal;
-use arrayvec::ArrayVec;
-use kept::{ROW_CAP, Table, is_fit, leaf_set, place_of};
+use kept::{Table, is_fit, leaf_set, place_of};
 
-// What is drawn of a table: the leaf set's row, and its members, ascending.
-#[derive(Clone, Drop)]
+// What is drawn of a table: the leaf set's row, and its members, which are the first `size` clusters, ascending; the others are zero. An
+// array and a number, as in the table, so that it is copied as the table is: a vector can't be.
+#[derive(Clone, Copy)]
 pub struct Drawn {
     pub row: usize,
-    pub clusters: ArrayVec<u64, ROW_CAP>,
+    pub clusters: [u64; 128],
+    pub size: usize,
 }
 
 // The members of row `row`, the leaf set's. Refused 8 where its marks aren't a tree of its best weight.
@@ -32,9 +33,13 @@ fn drawn_members(t: &Table, top: u64, row: usize) -> Result<Drawn, Refusal>
     if members.weight != t.bests[row] || !is_tree(&members.clusters, top, t.degree) {
         return Err(Refusal::Unfit);
     }
+    let size = members.clusters.len();
+    let mut clusters = [0; 128];
+    clusters[..size].copy_from_slice(&members.clusters);
     Ok(Drawn {
         row,
-        clusters: members.clusters,
+        clusters,
+        size,
     })
 }
 

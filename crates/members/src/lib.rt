@@ -1,7 +1,7 @@
 // Sets of clusters: whether one is a tree, and the one that is drawn of a table. Nothing public has a `requires`, and each `ensures` is one
 // equation to a definition of `specs/`.
 //     is_tree               whether a set of clusters is a tree on one of them
-//     Drawn, drawn_tree     what is drawn of a table: the leaf set's row, and its members ascending
+//     Drawn, drawn_tree     what is drawn of a table: the leaf set's row, its members ascending and how many
 #![tactic(auto)]
 
 mod draw;

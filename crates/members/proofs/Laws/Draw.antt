@@ -9,20 +9,21 @@
 use mathlib.Core.Path.{◌≡◌, sym, ap, ap₂, ◌∙◌}
 use mathlib.Core.Logic.{◌≢◌}
 use mathlib.Core.Bool.{Bool, true, false, not, ◌&&◌, and-false}
-use mathlib.Core.List.{◌++◌}
+use mathlib.Core.List.{List, ◌++◌}
 use mathlib.Core.Option.{Option, none, some}
 use Prim.Native.Nat.{ℕ, ◌-◌, ◌≤◌, ◌<◌}
 use native.Mathlib.Nat.{min-eq_left}
 use borrow.Author.Tests.{eq-eqb, ne_eqb, lt-ltb, le-ltb}
 use lib.Dec.{T, eqb, ltb, ltb→lt, T_not, not_T}
 use lib.IntN.{ℤ}
-use lib.ListN.{length, replicate}
+use lib.ListN.{length, replicate, drop}
 use lib.Signed.{lt_z}
 use Rattle.laws.specs.Limits.{Width, row_cap}
 use Rattle.laws.proofs.Integers.{lt_z_irrefl, tri, Tri}
 use Rattle.laws.proofs.Tests.{T_and, and_T, T_true, T_false, neq→}
 use Rattle.trees.specs.Tree.{is_tree}
 use Rattle.std.specs.Prelude.{Ok, Err}
+use Rattle.std.proofs.lemmas.List.{drop-replicate}
 use Rattle.answers.specs.declared.refusal.Refusal.{Refusal}
 use Rattle.answers.specs.declared.refusal.Refusal.TheVariants.{NoTree, Unfit}
 use Rattle.answers.specs.Outcome.{Outcome, outcome_of, ended}
@@ -32,7 +33,7 @@ use Rattle.kept.specs.View.{result_at}
 use Rattle.kept.specs.Fit.{is_fit}
 use Rattle.members.specs.declared.marks.Members.{Members}
 use Rattle.members.specs.Marked.{marked_to, members_to, members_in, scored_to, weight_to, is_same}
-use Rattle.members.specs.Draw.{leaf_row, has_tree, is_drawable, draw_reasons, DrawnMembers, no_members, drawn_members, drawn_tree, padded}
+use Rattle.members.specs.Draw.{leaf_row, has_tree, is_drawable, draw_reasons, DrawnMembers, no_members, drawn_members, drawn_tree}
 use Rattle.members.specs.Gathered.{Gathered, Found}
 use Rattle.members.proofs.Laws.Gathered.{gathered-size}
 
@@ -138,9 +139,12 @@ module _ {W : Width} {t : Table} {c i : ℕ} (f : Found W t c i) where
       found_no_tree h = sym (drawn-marks W t f.fit f.tree (tree_is ∙ h))
 
       pub found_tree : is_tree W.taxa t.degree c r.clusters.items ≡ true
-          → outcome_of (Ok 0) (record { row = i; clusters = padded r.clusters.items; size = length r.clusters.items }) ≡ drawn_tree W t
-      found_tree h =
-          let size = gathered-size g in
-          (λ j. outcome_of (Ok 0) (record { row = i; clusters = g.clusters j ++ replicate (row_cap - size j) 0; size = size j }))
+          → {n : ℕ} {copied : List ℕ} → n ≡ length r.clusters.items → copied ≡ r.clusters.items
+          → outcome_of (Ok 0) (record { row = i; clusters = copied ++ drop n (replicate row_cap 0); size = n }) ≡ drawn_tree W t
+      found_tree h {n} p q =
+          let size = p ∙ gathered-size g in
+          let front = q ∙ g.clusters in
+          let zeros = drop-replicate n row_cap 0 ∙ ap (λ (k : ℕ). replicate (row_cap - k) 0) size in
+          (λ j. outcome_of (Ok 0) (record { row = i; clusters = front j ++ zeros j; size = size j }))
           ∙ (λ j. outcome_of (Ok 0) (members_at (f.row j) (sym (min-eq_left f.capped) j)))
           ∙ sym (drawn-whole W t f.fit f.tree (tree_is ∙ h))

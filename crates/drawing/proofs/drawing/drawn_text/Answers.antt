@@ -25,7 +25,7 @@ returns-in_err-drawn c =
 pub text_of-text-requires-clause-tree_on : goal.text_of-text-requires-clause-tree_on
 text_of-text-requires-clause-tree_on c =
     let d = drawn_done narrow c.args.t narrow_facts c.in_ok-drawn.ensures refl in
-    rw (c.deref.ensures.0, d.members, top c.args.t _ d) (tree_on narrow narrow_facts d.table)
+    rw (d.front, top c.args.t _ d) (tree_on narrow narrow_facts d.table)
 
 pub text_of-text-requires-clause-top_bound : goal.text_of-text-requires-clause-top_bound
 text_of-text-requires-clause-top_bound c =
@@ -35,5 +35,5 @@ text_of-text-requires-clause-top_bound c =
 pub returns : goal.returns
 returns c =
     let d = drawn_done narrow c.args.t narrow_facts c.in_ok-drawn.ensures refl in
-    let same = c.text_of-text.ensures ∙ ap holding (ap₂ text_of (c.deref.ensures.0 ∙ d.members) (top c.args.t _ d)) in
+    let same = c.text_of-text.ensures ∙ ap holding (ap₂ text_of d.front (top c.args.t _ d)) in
     drawn_text_done narrow c.args.t d.unrefused d.row same

@@ -20,13 +20,13 @@ pub returns-then-room-size : goal.returns-then-room-size
 returns-then-room-size c =
     let t = c.args.t in
     let d = drawn_done narrow t narrow_facts c.in_ok-drawn.ensures refl in
-    sym (written-short [] (members_of t) c.args.room.now refl (omega (arith, ap length d.members, c.if-room-size.true)))
+    sym (written-short [] (members_of t) c.args.room.now refl (omega (arith, d.size, c.if-room-size.true)))
     ∙ tree-put narrow t c.args.room.now d.unrefused
 
 pub put_clusters-requires-clause-narrow : goal.put_clusters-requires-clause-narrow
 put_clusters-requires-clause-narrow c =
     let d = drawn_done narrow c.args.t narrow_facts c.in_ok-drawn.ensures refl in
-    rw (c.deref.ensures.0, d.members) (λ x m. (d.table.sound x m).1)
+    rw d.front (λ x m. (d.table.sound x m).1)
 
 pub returns : goal.returns
 returns c =
@@ -34,7 +34,7 @@ returns c =
     let room = c.args.room.now in
     let d = drawn_done narrow t narrow_facts c.in_ok-drawn.ensures refl in
     let xs = members_of t in
-    let whole = ap (λ (o : List ℕ). o ++ drop (length o) room) (c.deref.ensures.0 ∙ d.members) in
-    ap₂ outcome_of (ap Ok (c.len-size.ensures.value ∙ ap length d.members)) (c.put_clusters.ensures ∙ whole)
-    ∙ sym (written-whole [] xs room refl (omega (arith, ap length d.members, c.if-room-size.false)))
+    let whole = ap (λ (o : List ℕ). o ++ drop (length o) room) d.front in
+    ap₂ outcome_of (ap Ok d.size) (c.put_clusters.ensures ∙ whole)
+    ∙ sym (written-whole [] xs room refl (omega (arith, d.size, c.if-room-size.false)))
     ∙ tree-put narrow t room d.unrefused

@@ -1,5 +1,5 @@
 -- `members::draw::drawn_members` meets its contract: the three tests of the marks, in the definition's order. Assumes nothing.
-use Rattle.std.proofs.Common.{w64, of_z, sym, ap, rules}
+use Rattle.std.proofs.Common.{w64, of_z, sym, ap, ◌∙◌, rules}
 use Rattle.laws.proofs.Signed.{same_bits}
 use Rattle.members.proofs.Laws.Draw.{found_unscored, found_other, found_no_tree, found_tree}
 use Rattle.members.proofs.draw.drawn_members.Goals as goal
@@ -20,4 +20,5 @@ returns-then-members-t c =
 pub returns : goal.returns
 returns c =
     found_tree c.requires c.in-Some.ensures (same_bits w64 (search rules) (search rules) c.if-members-t.false)
-    (rw c.deref.ensures.0 at (sym c.if-not-is_tree.ensures))
+    (rw c.deref.ensures.0 at (sym c.if-not-is_tree.ensures)) c.len-size.ensures.value
+    (c.copy_from_slice.ensures.after ∙ c.deref-2.ensures.0)
