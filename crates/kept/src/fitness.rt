@@ -45,13 +45,15 @@ fn is_rising(clusters: &[u64]) -> bool
     clusters.is_sorted_by(|a, b| a < b)
 }
 
-// Whether each row is fit, and the places past the number of rows are all zero.
+// Whether each row is fit, and the places past the number of rows are all zero. From the last place down: the places past the rows are
+// tested soonest, and a fault at the end of the rows is met before the others are tested.
 fn has_right_rows(t: &Table) -> bool
     requires rising { Rising t.now.clusters t.now.rows }
     requires capped { t.now.rows ≤ row_cap }
     ensures { result ≡ has_right_rows narrow (clusters_in t.now) t.now t.now.rows row_cap }
 {
-    (0..t.rows).all(|i| is_row_fit(t, i)) && (t.rows..ROW_CAP).all(|i| Fields::of(t, i).is_empty())
+    (t.rows..ROW_CAP).rev().all(|i| Fields::of(t, i).is_empty())
+        && (0..t.rows).rev().all(|i| is_row_fit(t, i))
 }
 
 // Whether `t` is fit, whatever it holds.

@@ -13,23 +13,21 @@ use mathlib.Core.Path.{◌≡◌, refl, sym, ap, ap₂, ◌∙◌, subst}
 use mathlib.Core.Bool.{Bool, true, false, ◌&&◌}
 use mathlib.Core.List.{List}
 use mathlib.Core.List.{Memᴰ as Mem}
-use Prim.Native.Nat.{ℕ, ◌+◌, ◌-◌, ◌≤◌, ◌<◌}
+use Prim.Native.Nat.{ℕ, ◌-◌, ◌≤◌, ◌<◌}
 use native.Mathlib.Decide.{dec_le}
 use native.Mathlib.Nat.{pos_of_ne-zero}
 use native.Mathlib.Omega.{arith}
 use borrow.Author.Tests.{le-leb, lt-leb}
 use lib.Dec.{T, leb, leb→le, le→leb}
 use lib.ListN.{get_or, length, take}
-use Rattle.std.specs.List.{list_all, range_with_len}
-use Rattle.std.proofs.lemmas.List.FromFn.{length-range_with_len, get_or-range_with_len}
-use Rattle.std.proofs.lemmas.List.Sums.{AllPass-from_list_all, list_all-from_AllPass}
+use Rattle.std.specs.List.{list_all}
 use Rattle.std.proofs.lemmas.List.{get_or-take, length-take-le}
 use Rattle.laws.specs.Limits.{Width, is_degree, row_cap}
 use Rattle.laws.specs.Orders.{Falling}
 use Rattle.laws.specs.Row.{Row}
 use Rattle.laws.specs.Widths.{WidthFacts}
 use Rattle.laws.proofs.Down.{mem_down, every→down, down→every, down_passed, down_stopped, falling_down, down_falling}
-use Rattle.laws.proofs.Tests.{T_and, and_T, T_true, T_false, true_T, bool_ext}
+use Rattle.laws.proofs.Tests.{T_and, and_T, T_true, T_false, bool_ext}
 use Rattle.cluster.specs.Rule.{keeps_rules}
 use Rattle.cluster.proofs.Laws.Rule.{rules→, →rules}
 use Rattle.trees.specs.Rows.{Entry}
@@ -45,6 +43,7 @@ use Rattle.kept.specs.Fields.{entry_in, AtRow}
 use Rattle.kept.specs.Arrays.{Rising}
 use Rattle.kept.proofs.Laws.Blank.{empty_entry, entry_empty}
 use Rattle.kept.proofs.Laws.Clusters.{clusters_are, Ascends, is_rising→, →is_rising, first_down, first_rising, first_ascend}
+use Rattle.kept.proofs.Laws.Downward.{from_end, all→, →all}
 use Rattle.kept.proofs.Laws.Results.{ranged→, →ranged, matched→, →matched}
 
 -- ---- a row
@@ -90,19 +89,6 @@ pub fit_in : (W : Width) (t : Table) (i : ℕ) (r : Fields) → t.rows ≤ lengt
     ≡ fit_entry W (clusters_in t) (entry_at t i)
 fit_in W t i r h e = ap₂ (fit_entry W) (first_down t.clusters t.rows h ∙ sym (clusters_are t t.rows)) e
 
--- ---- what holds of each number of a range
-module _ (p : ℕ → Bool) (a n : ℕ) where
-  range→ : T (list_all p (range_with_len a n)) → (i : ℕ) → a ≤ i → i < a + n → T (p i)
-  range→ h i l m =
-      let same : get_or (range_with_len a n) (i - a) 0 ≡ i = get_or-range_with_len a n (i - a) 0 (omega arith) ∙ omega arith in
-      true_T (rw same at (AllPass-from_list_all p (range_with_len a n) (T_true _ h) (i - a) 0 (omega (arith, length-range_with_len a n))))
-
-  →range : ((i : ℕ) → a ≤ i → i < a + n → T (p i)) → T (list_all p (range_with_len a n))
-  →range f =
-      true_T (list_all-from_AllPass p (range_with_len a n) (λ k d l.
-      let place : k < n = omega (arith, length-range_with_len a n) in
-      rw (get_or-range_with_len a n k d place) (T_true _ (f (a + k) (omega arith) (omega arith)))))
-
 -- ---- all rows
 module _ (W : Width) (cs : List ℕ) (t : Table) (n : ℕ) where
   abbrev is_right : ℕ → Bool
@@ -137,24 +123,24 @@ module _ (W : Width) (cs : List ℕ) (t : Table) (n : ℕ) where
   empties i = is_empty (entry_at t i)
 
   pub right_is : n ≤ row_cap
-      → (list_all fits (range_with_len 0 n) && list_all empties (range_with_len n (row_cap - n))) ≡ has_right_rows W cs t n row_cap
+      → (list_all empties (from_end n (row_cap - n)) && list_all fits (from_end 0 n)) ≡ has_right_rows W cs t n row_cap
   right_is h = bool_ext _ _ to from
     where
-      to : T (list_all fits (range_with_len 0 n) && list_all empties (range_with_len n (row_cap - n))) → T (has_right_rows W cs t n row_cap)
+      to : T (list_all empties (from_end n (row_cap - n)) && list_all fits (from_end 0 n)) → T (has_right_rows W cs t n row_cap)
       to k = →right row_cap (λ i l. go i l (dec_le n i))
         where
-          both : T (list_all fits (range_with_len 0 n)) × T (list_all empties (range_with_len n (row_cap - n)))
-          both = T_and (list_all fits (range_with_len 0 n)) _ k
+          both : T (list_all empties (from_end n (row_cap - n))) × T (list_all fits (from_end 0 n))
+          both = T_and (list_all empties (from_end n (row_cap - n))) _ k
 
           go : (i : ℕ) → i < row_cap → Dec (n ≤ i) → T (is_right i)
-          go i l (yes m) = rw (le-leb n i m) (range→ empties n (row_cap - n) both.1 i m (omega arith))
-          go i l (no m) = rw (lt-leb n i (omega arith)) (range→ fits 0 n both.0 i (omega arith) (omega arith))
+          go i l (yes m) = rw (le-leb n i m) (all→ empties n (row_cap - n) both.0 i m (omega arith))
+          go i l (no m) = rw (lt-leb n i (omega arith)) (all→ fits 0 n both.1 i (omega arith) (omega arith))
 
-      from : T (has_right_rows W cs t n row_cap) → T (list_all fits (range_with_len 0 n) && list_all empties (range_with_len n (row_cap - n)))
+      from : T (has_right_rows W cs t n row_cap) → T (list_all empties (from_end n (row_cap - n)) && list_all fits (from_end 0 n))
       from k =
-          and_T (list_all fits (range_with_len 0 n)) _
-          (→range fits 0 n (λ i l m. let i_lt : i < n = omega arith in rw (lt-leb n i i_lt) at (right→ row_cap k i (omega arith))))
-          (→range empties n (row_cap - n) (λ i l m. rw (le-leb n i l) at (right→ row_cap k i (omega arith))))
+          and_T (list_all empties (from_end n (row_cap - n))) _
+          (→all empties n (row_cap - n) (λ i l m. rw (le-leb n i l) at (right→ row_cap k i (omega arith))))
+          (→all fits 0 n (λ i l m. let i_lt : i < n = omega arith in rw (lt-leb n i i_lt) at (right→ row_cap k i (omega arith))))
 
 -- ---- a table
 module _ (W : Width) (facts : WidthFacts W) (t : Table) where
