@@ -20,8 +20,8 @@ pub mod Written
 pub mod Read
 -- one record put in its place
 pub mod Placed
--- the same where the last places tell it
-pub mod PlacedLast
+-- how many have smaller clusters
+pub mod PlaceFor
 -- all records in order
 pub mod Ordered
 -- rows in arrays
