@@ -9,7 +9,6 @@ pub mod Ones
 -- keys: counted, gathered, added, and those of a sheet
 pub mod Gathered
 pub mod Counted
-pub mod Keys
 pub mod Adding
 pub mod Held
 pub mod Tallied

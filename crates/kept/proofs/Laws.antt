@@ -11,8 +11,6 @@ pub mod Clusters
 pub mod Words
 -- the results of a fit row as facts
 pub mod Results
--- the numbers of a range from its end down
-pub mod Downward
 -- a fit row and a fit table as facts
 pub mod Fit
 -- looking up rows

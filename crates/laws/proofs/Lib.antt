@@ -40,6 +40,12 @@ pub mod Signed
 pub mod Sort
 -- what stands in ascending places, the largest first
 pub mod Down
+-- how many of ascending numbers are below another
+pub mod Below
+-- the numbers of a range from its end down
+pub mod Downward
+-- a number put into a list, those above it moved up
+pub mod MovedUp
 -- lists by their places
 pub mod Places
 -- the first place that passes a test

@@ -26,6 +26,7 @@ use Rattle.laws.specs.Limits.{Width, is_degree, row_cap}
 use Rattle.laws.specs.Orders.{Falling}
 use Rattle.laws.specs.Row.{Row}
 use Rattle.laws.specs.Widths.{WidthFacts}
+use Rattle.laws.proofs.Downward.{from_end, all→, →all}
 use Rattle.laws.proofs.Down.{mem_down, every→down, down→every, down_passed, down_stopped, falling_down, down_falling}
 use Rattle.laws.proofs.Tests.{T_and, and_T, T_true, T_false, bool_ext}
 use Rattle.cluster.specs.Rule.{keeps_rules}
@@ -43,7 +44,6 @@ use Rattle.kept.specs.Fields.{entry_in, AtRow}
 use Rattle.kept.specs.Arrays.{Rising}
 use Rattle.kept.proofs.Laws.Blank.{empty_entry, entry_empty}
 use Rattle.kept.proofs.Laws.Clusters.{clusters_are, Ascends, is_rising→, →is_rising, first_down, first_rising, first_ascend}
-use Rattle.kept.proofs.Laws.Downward.{from_end, all→, →all}
 use Rattle.kept.proofs.Laws.Results.{ranged→, →ranged, matched→, →matched}
 
 -- ---- a row

@@ -6,7 +6,7 @@ use Rattle.laws.specs.Limits.{narrow, row_cap}
 use Rattle.kept.specs.View.{entry_at, clusters_in}
 use Rattle.kept.specs.Blank.{is_empty}
 use Rattle.kept.specs.Fit.{fit_entry}
-use Rattle.kept.proofs.Laws.Downward.{from_end, YieldsList-from_end}
+use Rattle.laws.proofs.Downward.{from_end, YieldsList-from_end}
 use Rattle.kept.proofs.Laws.Fit.{right_is}
 use Rattle.kept.proofs.fitness.has_right_rows.Goals as goal
 use Rattle.kept.proofs.fitness.has_right_rows.Goals.{After-all}
